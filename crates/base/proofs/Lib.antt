@@ -1,0 +1,3 @@
+pub mod AllOf
+mod OneMore
+mod Listed

@@ -1,0 +1,6 @@
+use mathlib.Core.Path.{sym}
+use Rattle.base.proofs.Listed.{length-listed}
+use Rattle.base.proofs.labels.Labels.count.Needs as need
+
+pub returns : need.returns
+returns c = let l = c .args .self .now in sym (length-listed (l .table) (l .count) (l .rows) (l .few))

@@ -1,0 +1,6 @@
+// What every other crate speaks of: refusals, names and label lists.
+pub mod label_list;
+pub mod labels;
+pub mod name;
+pub mod refusal;
+pub mod spelling;

@@ -1,0 +1,2 @@
+mod Deadlocks
+pub mod Rows
