@@ -1,2 +1,2 @@
-mod Deadlocks
+pub mod Deadlocks
 pub mod Rows
