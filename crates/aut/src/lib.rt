@@ -1,0 +1,5 @@
+// AUT text: the reader.
+pub mod field;
+pub mod header;
+pub mod scan;
+pub mod scanning;
