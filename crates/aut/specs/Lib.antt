@@ -1,3 +1,4 @@
 pub mod Form
 pub mod Scanning
 pub mod Views
+pub mod Surveys

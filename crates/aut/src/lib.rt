@@ -3,3 +3,5 @@ pub mod field;
 pub mod header;
 pub mod scan;
 pub mod scanning;
+pub mod survey;
+pub mod surveying;
