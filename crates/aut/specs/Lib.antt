@@ -2,3 +2,4 @@ pub mod Form
 pub mod Scanning
 pub mod Views
 pub mod Surveys
+pub mod Laying

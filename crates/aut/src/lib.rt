@@ -1,6 +1,7 @@
 // AUT text: the reader.
 pub mod field;
 pub mod header;
+pub mod laying;
 pub mod scan;
 pub mod scanning;
 pub mod survey;

@@ -54,3 +54,19 @@ impl Survey {
         }
     }
 }
+
+// The first pass: notes as many lines as there should be from a place of the text on. False where the text has not just these.
+pub(crate) fn survey_lines(text: &[u8], from: usize, lines: usize, states: usize, slots: usize, survey: &mut Survey) -> bool
+    requires { ⌜ states ≤ 65536 ⌝ ∗ ⌜ slots ≤ 64 ⌝ ∗ ⌜ from ≤ length (now text) ⌝ }
+    ensures { λ r. ⌜ When r (surveyed states slots (seen (now (survey .entry))) lines (drop from (now (text .entry))) ≡ Some (seen (now (survey .exit)))) (surveyed states slots (seen (now (survey .entry))) lines (drop from (now (text .entry))) ≡ None) ⌝ }
+{
+    let mut at = from;
+    for _done in 0..lines {
+        let Some(found) = scan_line(text, at, Field::Open) else {
+            return false;
+        };
+        survey.note(&found.0.line, states, slots);
+        at = found.1;
+    }
+    at == text.len()
+}
