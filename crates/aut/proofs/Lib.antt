@@ -1,2 +1,6 @@
-mod Walks
 mod Folds
+mod Readings
+mod Rooms
+mod Slots
+mod Stages
+mod Walks

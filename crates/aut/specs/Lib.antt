@@ -3,3 +3,5 @@ pub mod Scanning
 pub mod Views
 pub mod Surveys
 pub mod Laying
+pub mod Reading
+pub mod Agreement

@@ -1,4 +1,5 @@
 // AUT text: the reader.
+pub mod agree;
 pub mod field;
 pub mod header;
 pub mod laying;

@@ -1,3 +1,3 @@
 pub mod AllOf
 mod OneMore
-mod Listed
+pub mod Listed

@@ -51,7 +51,7 @@ pub new-names : (name : List ℕ) (xs : List (List ℕ)) → true ≡ is-name na
 new-names name xs h e = cond-true _ _ _ (sym h) ∙ ap (λ o. names-at o name xs) (sym e)
 
 -- a name that has no place is not known
-unknown : (k : ℕ) (name : List ℕ) (xs : List (List ℕ)) → place k name xs ≡ None → known name xs ≡ false
+pub unknown : (k : ℕ) (name : List ℕ) (xs : List (List ℕ)) → place k name xs ≡ None → known name xs ≡ false
 unknown k name [] h = refl
 unknown k name (x ∷ xs) h = at (sameBytes x name) (λ e. unknown (k + 1) name xs e) h
   where
