@@ -4,3 +4,5 @@ mod Rooms
 mod Slots
 mod Stages
 mod Walks
+mod Plans
+mod Outcomes

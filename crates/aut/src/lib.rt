@@ -3,6 +3,8 @@ pub mod agree;
 pub mod field;
 pub mod header;
 pub mod laying;
+pub mod plan;
+pub mod reader;
 pub mod scan;
 pub mod scanning;
 pub mod survey;

@@ -14,14 +14,22 @@ use crate::header::Line;
 use crate::scanning::scan_line;
 use crate::survey::Survey;
 
+// No transition counted at any state.
+pub(crate) fn no_counts() -> [u8; 65536]
+    ensures zeros { λ r. ⌜ ((s : ℕ) → getD r s 0 ≡ 0) ⌝ }
+    ensures rows { λ r. ⌜ length r ≡ 65536 ⌝ }
+{
+    [0; 65536]
+}
+
 impl Survey {
     // Nothing seen yet.
-    fn start(labels: Labels) -> Survey
+    pub(crate) fn start(labels: Labels) -> Survey
         ensures names { λ r. ⌜ seen r .names ≡ listed (labels .table) (labels .count) ⌝ }
         ensures counts { λ r. ⌜ ((s : ℕ) → getD (seen r .counts) s 0 ≡ 0) ⌝ }
         ensures flags { λ r. ⌜ (seen r .inside ≡ true) × (seen r .room ≡ true) ⌝ }
     {
-        Survey { labels, counts: [0; 65536], inside: true, room: true }
+        Survey { labels, counts: no_counts(), inside: true, room: true }
     }
 
     // One transition more at its state, of at most `slots`.

@@ -1,0 +1,10 @@
+use base::labels::Labels;
+use crate::header::Header;
+
+// What the first pass hands to the second: line one, the place after it, and the label list as it will be.
+#[derive(Drop)]
+pub struct Plan {
+    pub(crate) header: Header,
+    pub(crate) body: usize,
+    pub(crate) labels: Labels,
+}
