@@ -6,3 +6,4 @@ mod Stages
 mod Walks
 mod Plans
 mod Outcomes
+mod Fronts

@@ -24,7 +24,7 @@ Number x = Numeral x (worth 0 x)
 own : (x : List ℕ) {n : ℕ} → Numeral x n → Number x
 own x k = record { in-digits = k .in-digits; some-digits = k .some-digits; few-digits = k .few-digits; zero-alone = k .zero-alone; writes = refl }
 
-same : {X : Type 0} {x y : X} → _≡_ {A = Option X} (Some x) (Some y) → x ≡ y
+pub same : {X : Type 0} {x y : X} → _≡_ {A = Option X} (Some x) (Some y) → x ≡ y
 same e = cc
 
 -- line one: its pieces
@@ -55,7 +55,7 @@ head-then : (a g m g′ n t : List ℕ) → head-text a g m g′ n [] ++ t ≡ h
 head-then a g m g′ n t = simp append-assoc
 
 -- the reader goes through a line one, and through nothing else from there
-line-one-in : (x t : List ℕ) (h : Header) → Line-one x h → (s : State) × Reads (begin D) (x ++ t) (s, t) × (s .head ≡ h)
+pub line-one-in : (x t : List ℕ) (h : Header) → Line-one x h → (s : State) × Reads (begin D) (x ++ t) (s, t) × (s .head ≡ h)
 line-one-in x t h k =
     let a : ℕ = worth 0 (k .start) in
     let m : ℕ = worth 0 (k .transitions) in
@@ -69,7 +69,7 @@ line-one-in x t h k =
          (states a m .forth (k .states) (10 ∷ t) (own _ (k .states-is)) refl))))),
      simp (k .start-is .writes, k .transitions-is .writes, k .states-is .writes))
 
-line-one-out : (t : List ℕ) (s : State) (t′ : List ℕ) → Reads (begin D) t (s, t′) → (x : List ℕ) × Line-one x (s .head) × (t ≡ x ++ t′)
+pub line-one-out : (t : List ℕ) (s : State) (t′ : List ℕ) → Reads (begin D) t (s, t′) → (x : List ℕ) × Line-one x (s .head) × (t ≡ x ++ t′)
 line-one-out t s t′ e =
     let G : Type 0 = (x : List ℕ) × Line-one x (s .head) × (t ≡ x ++ t′) in
     byte-out (begin D) E 100 (λ b. refl) G t e (λ t₁ p₁ e₁.

@@ -5,3 +5,4 @@ pub mod Surveys
 pub mod Laying
 pub mod Reading
 pub mod Agreement
+pub mod Front

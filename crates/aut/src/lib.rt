@@ -1,6 +1,7 @@
 // AUT text: the reader.
 pub mod agree;
 pub mod field;
+pub mod front;
 pub mod header;
 pub mod laying;
 pub mod plan;
