@@ -52,7 +52,7 @@ module _ {V R : Type 0} (F : V → List Transition → R) (take : Transition →
       when-from (eqb at (length text))
       (λ e. sym inv ∙ ending v m i (drop at text) h ∙ ap (λ t. mapped (F v) (at-end t)) (drop-all at text (omega (arith, eqb-true at (length text) e))))
       (λ e. sym inv ∙ ending v m i (drop at text) h
-          ∙ ap (λ t. mapped (F v) (at-end t)) (drop-more text at 0 (let ne = eqb-false at (length text) e in ⊎-elim (λ k. k) (λ k. absurd (ne (omega arith))) (cases-lt at (length text)))))
+      ∙ ap (λ t. mapped (F v) (at-end t)) (drop-more text at 0 (let ne = eqb-false at (length text) e in ⊎-elim (λ k. k) (λ k. absurd (ne (omega arith))) (cases-lt at (length text)))))
     where
       when-from : (b : Bool) → (b ≡ true → r ≡ Some (F v [])) → (b ≡ false → r ≡ None) → When b (r ≡ Some (F v [])) (r ≡ None)
       when-from true f g = f refl

@@ -90,8 +90,14 @@ module _ (input : List ℕ) where
     front-made n e =
         let q = line-one-out input s (drop at input) first in
         let long : at ≡ length (q .0) = omega (arith, ap length (q .2), length-append (q .0) (drop at input), length-drop at input) in
-        record { header = s .head; first = q .0; rest = drop at input; first-is = q .1; reads = q .2;
-          lines = ap (λ x. mapped (λ j. x + j) (lines-length (s .head .transitions) (drop at input))) (sym long) ∙ e }
+        record {
+          header = s .head;
+          first = q .0;
+          rest = drop at input;
+          first-is = q .1;
+          reads = q .2;
+          lines = ap (λ x. mapped (λ j. x + j) (lines-length (s .head .transitions) (drop at input))) (sym long) ∙ e;
+        }
 
 -- what reading a front comes to: no model there, or one that is read as a text of its own
 module _ (input : List ℕ) (longest most w : ℕ) (before : Labels) (cells : List Cell) (short : ltb longest (length input) ≡ false) where
@@ -101,7 +107,8 @@ module _ (input : List ℕ) (longest most w : ℕ) (before : Labels) (cells : Li
     no-model = λ _ _. refl;
     model = λ _ n k. absurd (none n k);
     place = λ n k. absurd (none n k);
-    unaltered = λ _ _. (refl, refl) }
+    unaltered = λ _ _. (refl, refl);
+  }
 
   pub front-read : (n k : ℕ) (after : Labels) (cells′ : List Cell) (r : Result (Header × ℕ) Refusal) → k ≡ n → Model-front input n → ((m : ℕ) → Model-front input m → m ≡ n) →
       Read (take k input) most w before after cells cells′ (header-of r) → ((h : Header) (j : ℕ) → r ≡ Ok (h, j) → j ≡ n) → Front-read input longest most w before after cells cells′ r
@@ -110,4 +117,5 @@ module _ (input : List ℕ) (longest most w : ℕ) (before : Labels) (cells : Li
     no-model = λ _ none. absurd (none n front);
     model = λ _ m f. subst (λ x. Read (take x input) most w before after cells cells′ (header-of r)) (e ∙ sym (only m f)) read;
     place = λ m f h j s. place h j s ∙ sym (only m f);
-    unaltered = λ x s. read .unaltered x (ap header-of s) }
+    unaltered = λ x s. read .unaltered x (ap header-of s);
+  }

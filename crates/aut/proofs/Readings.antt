@@ -59,15 +59,16 @@ pub line-one-in : (x t : List ℕ) (h : Header) → Line-one x h → (s : State)
 line-one-in x t h k =
     let a : ℕ = worth 0 (k .start) in
     let m : ℕ = worth 0 (k .transitions) in
-    let s : State = heads a m (worth 0 (k .states)) Open in
-    (s,
-     subst (λ y. Reads (begin D) y (s, t)) (sym (ap (λ y. y ++ t) (k .reads) ∙ head-then (k .start) (k .gap) (k .transitions) (k .gap′) (k .states) t))
-     (start .forth (k .start) _ (own _ (k .start-is))
-      (count-gap a .forth (k .gap) _ (k .gap-is)
-       (count a .forth (k .transitions) _ (own _ (k .transitions-is))
-        (states-gap a m .forth (k .gap′) _ (k .gap-is′)
-         (states a m .forth (k .states) (10 ∷ t) (own _ (k .states-is)) refl))))),
-     simp (k .start-is .writes, k .transitions-is .writes, k .states-is .writes))
+    let s : State = heads a m (worth 0 (k .states)) Open in (
+      s,
+      subst (λ y. Reads (begin D) y (s, t)) (sym (ap (λ y. y ++ t) (k .reads) ∙ head-then (k .start) (k .gap) (k .transitions) (k .gap′) (k .states) t))
+          (start .forth (k .start) _ (own _ (k .start-is))
+          (count-gap a .forth (k .gap) _ (k .gap-is)
+          (count a .forth (k .transitions) _ (own _ (k .transitions-is))
+          (states-gap a m .forth (k .gap′) _ (k .gap-is′)
+          (states a m .forth (k .states) (10 ∷ t) (own _ (k .states-is)) refl))))),
+      simp (k .start-is .writes, k .transitions-is .writes, k .states-is .writes),
+    )
 
 pub line-one-out : (t : List ℕ) (s : State) (t′ : List ℕ) → Reads (begin D) t (s, t′) → (x : List ℕ) × Line-one x (s .head) × (t ≡ x ++ t′)
 line-one-out t s t′ e =
@@ -85,12 +86,24 @@ line-one-out t s t′ e =
     byte-out (heads (worth 0 a) (worth 0 m) (worth 0 n) HeadEnd) Open 10 (λ b. refl) G u e′ (λ u′ q e″.
     let x : List ℕ = head-text a g m g′ n [] in
     let o = same e″ in
-    let o′ : u′ ≡ t′ = ap (λ y. y .1) o in
-    (x,
-     subst (λ y. Line-one x (y .head)) (ap (λ y. y .0) o)
-     (record { start = a; transitions = m; states = n; gap = g; gap′ = g′;
-       start-is = a-is; transitions-is = m-is; states-is = n-is; gap-is = g-is; gap-is′ = g-is′; reads = refl }),
-     cc (head-then a g m g′ n t′)))))))))))))
+    let o′ : u′ ≡ t′ = ap (λ y. y .1) o in (
+      x,
+      subst (λ y. Line-one x (y .head)) (ap (λ y. y .0) o)
+          (record {
+            start = a;
+            transitions = m;
+            states = n;
+            gap = g;
+            gap′ = g′;
+            start-is = a-is;
+            transitions-is = m-is;
+            states-is = n-is;
+            gap-is = g-is;
+            gap-is′ = g-is′;
+            reads = refl;
+          }),
+      cc (head-then a g m g′ n t′),
+    ))))))))))))
 
 -- a further line: its pieces
 source : Stage (begin From) Number (44 ∷ []) (λ x. naming (worth 0 x) LabelGap [])
@@ -121,15 +134,16 @@ further-in : (x t : List ℕ) (l : Transition) → Further-line x l → (s : Sta
 further-in x t l k =
     let a : ℕ = worth 0 (k .from) in
     let y : List ℕ = l .label in
-    let s : State = lined a y (worth 0 (k .to)) Open in
-    (s,
-     subst (λ y. Reads (begin Open) y (s, t)) (sym (ap (λ y. y ++ t) (k .reads) ∙ line-then (k .from) (k .gap) y (k .gap′) (k .to) t))
-     (source .forth (k .from) _ (own _ (k .from-is))
-      (label-gap a .forth (k .gap) (34 ∷ (y ++ 34 ∷ 44 ∷ (k .gap′ ++ (k .to ++ 41 ∷ 10 ∷ t)))) (k .gap-is)
-       (name a .forth y (44 ∷ (k .gap′ ++ (k .to ++ 41 ∷ 10 ∷ t))) (k .label-is)
-        (to-gap a y .forth (k .gap′) _ (k .gap-is′)
-         (target a y .forth (k .to) (10 ∷ t) (own _ (k .to-is)) refl))))),
-     simp (k .from-is .writes, k .to-is .writes))
+    let s : State = lined a y (worth 0 (k .to)) Open in (
+      s,
+      subst (λ y. Reads (begin Open) y (s, t)) (sym (ap (λ y. y ++ t) (k .reads) ∙ line-then (k .from) (k .gap) y (k .gap′) (k .to) t))
+          (source .forth (k .from) _ (own _ (k .from-is))
+          (label-gap a .forth (k .gap) (34 ∷ (y ++ 34 ∷ 44 ∷ (k .gap′ ++ (k .to ++ 41 ∷ 10 ∷ t)))) (k .gap-is)
+          (name a .forth y (44 ∷ (k .gap′ ++ (k .to ++ 41 ∷ 10 ∷ t))) (k .label-is)
+          (to-gap a y .forth (k .gap′) _ (k .gap-is′)
+          (target a y .forth (k .to) (10 ∷ t) (own _ (k .to-is)) refl))))),
+      simp (k .from-is .writes, k .to-is .writes),
+    )
 
 further-out : (t : List ℕ) (s : State) (t′ : List ℕ) → Reads (begin Open) t (s, t′) → (x : List ℕ) × Further-line x (s .line) × (t ≡ x ++ t′)
 further-out t s t′ e =
@@ -145,11 +159,12 @@ further-out t s t′ e =
     byte-out (lined (worth 0 a) y (worth 0 z) LineEnd) Open 10 (λ b. refl) G t₈ e₈ (λ t₉ p₉ e₉.
     let x : List ℕ = line-text a g y g′ z [] in
     let o = same e₉ in
-    let o′ : t₉ ≡ t′ = ap (λ y. y .1) o in
-    (x,
-     subst (λ y. Further-line x (y .line)) (ap (λ y. y .0) o)
-     (record { from = a; to = z; gap = g; gap′ = g′; from-is = a-is; label-is = y-is; to-is = z-is; gap-is = g-is; gap-is′ = g-is′; reads = refl }),
-     cc (line-then a g y g′ z t′)))))))))))
+    let o′ : t₉ ≡ t′ = ap (λ y. y .1) o in (
+      x,
+      subst (λ y. Further-line x (y .line)) (ap (λ y. y .0) o)
+          (record { from = a; to = z; gap = g; gap′ = g′; from-is = a-is; label-is = y-is; to-is = z-is; gap-is = g-is; gap-is′ = g-is′; reads = refl }),
+      cc (line-then a g y g′ z t′),
+    ))))))))))
 
 -- the lines after line one
 lines-in : {t : List ℕ} {ls : List Transition} → Lines t ls → lines-of (length ls) t ≡ Some ls

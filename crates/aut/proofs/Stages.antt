@@ -87,8 +87,8 @@ module _ (g f : Field) (s : State) (law : (b : ℕ) → turn-of g b ≡ cond (eq
   gap-in _ (b ∷ t) {r} nothing e =
       subst (λ x. Arrives (turned x b (goes g s)) t r) (sym (law b))
       (cond-both (eqb b 32) (Next f) (turn-of f b) (λ x. Arrives (turned x b (goes g s)) t r)
-       (λ h. no-way _ (subst (λ x. Arrives (turned x b (goes f s)) t r) (ap (turn-of f) (eqb-true b 32 h) ∙ shut) e))
-       (λ _. subst (λ x. Arrives x t r) (same-turn (turn-of f b) b) e))
+      (λ h. no-way _ (subst (λ x. Arrives (turned x b (goes f s)) t r) (ap (turn-of f) (eqb-true b 32 h) ∙ shut) e))
+      (λ _. subst (λ x. Arrives x t r) (same-turn (turn-of f b) b) e))
 
   gap-out : (t : List ℕ) {r : Place} → Reads (goes g s) t r → Split Gap [] (λ _. goes f s) t r
   gap-out [] e = no-way _ e
@@ -117,13 +117,17 @@ module _ (v d b : ℕ) (x : List ℕ) where
       let low : 48 ≤ b = leb-true 48 b (and-parts (leb 48 b) (leb b 57) (p .0) .0) in
       let few : d + suc (length x) ≤ 5 = k .few-digits in
       let one : d ≡ 1 → v ≡ 0 → ⊥ = λ e z. absurd (omega (arith, k .zero-read e z)) in
-      let taken : takes-digit v d ≡ true = grind (arith, tells) in
-      (p .0, taken, record {
-        in-digits = p .1;
-        some-digits = omega arith;
-        few-digits = omega arith;
-        zero-read = λ e z. let none : d ≡ 0 = omega arith in let is : b ≡ 48 = omega arith in omega (arith, k .zero-alone none is);
-        zero-alone = λ e. absurd (omega arith) })
+      let taken : takes-digit v d ≡ true = grind (arith, tells) in (
+        p .0,
+        taken,
+        record {
+          in-digits = p .1;
+          some-digits = omega arith;
+          few-digits = omega arith;
+          zero-read = λ e z. let none : d ≡ 0 = omega arith in let is : b ≡ 48 = omega arith in omega (arith, k .zero-alone none is);
+          zero-alone = λ e. absurd (omega arith);
+        },
+      )
 
   more : (d ≡ 0 → v ≡ 0) → digit b ≡ true → takes-digit v d ≡ true → Rest (v * 10 + (b - 48)) (d + 1) x → Rest v d (b ∷ x)
   more z h u k =
@@ -133,7 +137,8 @@ module _ (v d b : ℕ) (x : List ℕ) where
         some-digits = omega arith;
         few-digits = omega (arith, k .few-digits);
         zero-read = λ e n. absurd (one e n);
-        zero-alone = λ e is. let none : v ≡ 0 = z e in let next-one : d + 1 ≡ 1 = omega arith in let nought : v * 10 + (b - 48) ≡ 0 = omega arith in omega (arith, k .zero-read next-one nought) }
+        zero-alone = λ e is. let none : v ≡ 0 = z e in let next-one : d + 1 ≡ 1 = omega arith in let nought : v * 10 + (b - 48) ≡ 0 = omega arith in omega (arith, k .zero-read next-one nought);
+      }
 
 -- where the reader stands in a numeral, and after it
 abbrev pub counting : Field → Header → Transition → ℕ → ℕ → State
@@ -163,31 +168,49 @@ module _ (f g : Field) (c : ℕ) (p : Part) (h : Header) (l : Transition)
       let S : Type 0 = Split (Rest v d) (c ∷ []) (λ x. counted p g h l (worth v x)) (b ∷ t) r in
       cond-both (digit b) (Digit f) (only c b (Store p g)) (λ x. Arrives (turned x b (counting f h l v d)) t r → S)
       (λ i. cond-both (takes-digit v d) (counting f h l (v * 10 + (b - 48)) (d + 1)) (goes Bad (counting f h l v d)) (λ x. Arrives x t r → S)
-        (λ u a.
-          let room : d + 1 ≤ 5 = grind (arith, tells) in
-          let k = digits-out t (v * 10 + (b - 48)) (d + 1) room (λ n. absurd (omega arith)) (onward (counting f h l (v * 10 + (b - 48)) (d + 1)) t on-f a) in
-          record { piece = b ∷ k .piece; rest = k .rest; is = more v d b (k .piece) z i u (k .is); splits = ap (λ x. b ∷ x) (k .splits); goes-on = k .goes-on })
-        (λ _ a. no-way _ a))
+      (λ u a.
+      let room : d + 1 ≤ 5 = grind (arith, tells) in
+      let k = digits-out t (v * 10 + (b - 48)) (d + 1) room (λ n. absurd (omega arith)) (onward (counting f h l (v * 10 + (b - 48)) (d + 1)) t on-f a) in
+      record { piece = b ∷ k .piece; rest = k .rest; is = more v d b (k .piece) z i u (k .is); splits = ap (λ x. b ∷ x) (k .splits); goes-on = k .goes-on })
+      (λ _ a. no-way _ a))
       (λ _. cond-both (eqb b c) (Store p g) (Next Bad) (λ x. Arrives (turned x b (counting f h l v d)) t r → S)
-        (λ i. cond-both (eqb d 0) (goes Bad (counting f h l v d)) (counted p g h l v) (λ x. Arrives x t r → S)
-          (λ _ a. no-way _ a)
-          (λ n a.
-            let some : d ≡ 0 → ⊥ = eqb-false d 0 n in
-            record { piece = []; rest = t;
-              is = record { in-digits = refl; some-digits = omega arith; few-digits = omega arith; zero-read = λ _ _. refl; zero-alone = λ m. absurd (some m) };
-              splits = ap (λ x. x ∷ t) (eqb-true b c i); goes-on = onward (counted p g h l v) t on-g a }))
-        (λ _ a. no-way _ a))
+      (λ i. cond-both (eqb d 0) (goes Bad (counting f h l v d)) (counted p g h l v) (λ x. Arrives x t r → S)
+      (λ _ a. no-way _ a)
+      (λ n a.
+      let some : d ≡ 0 → ⊥ = eqb-false d 0 n in
+      record {
+        piece = [];
+        rest = t;
+        is = record { in-digits = refl; some-digits = omega arith; few-digits = omega arith; zero-read = λ _ _. refl; zero-alone = λ m. absurd (some m) };
+        splits = ap (λ x. x ∷ t) (eqb-true b c i);
+        goes-on = onward (counted p g h l v) t on-g a;
+      }))
+      (λ _ a. no-way _ a))
       (subst (λ x. Arrives (turned x b (counting f h l v d)) t r) (law b) e)
 
   pub number : Stage (counting f h l 0 0) (λ x. Numeral x (worth 0 x)) (c ∷ []) (λ x. counted p g h l (worth 0 x))
   number = record {
-      forth = λ x t k. digits-in x t 0 0 (record {
-        in-digits = k .in-digits; some-digits = omega (arith, k .some-digits); few-digits = omega (arith, k .few-digits);
-        zero-read = λ e. absurd (omega arith); zero-alone = λ _. k .zero-alone });
-      back = λ t e. let k = digits-out t 0 0 (omega arith) (λ z. z) e in record { piece = k .piece; rest = k .rest;
-        is = record { in-digits = k .is .in-digits; some-digits = omega (arith, k .is .some-digits); few-digits = omega (arith, k .is .few-digits);
-          zero-alone = k .is .zero-alone refl; writes = refl };
-        splits = k .splits; goes-on = k .goes-on } }
+    forth = λ x t k. digits-in x t 0 0 (record {
+      in-digits = k .in-digits;
+      some-digits = omega (arith, k .some-digits);
+      few-digits = omega (arith, k .few-digits);
+      zero-read = λ e. absurd (omega arith);
+      zero-alone = λ _. k .zero-alone;
+    });
+    back = λ t e. let k = digits-out t 0 0 (omega arith) (λ z. z) e in record {
+      piece = k .piece;
+      rest = k .rest;
+      is = record {
+        in-digits = k .is .in-digits;
+        some-digits = omega (arith, k .is .some-digits);
+        few-digits = omega (arith, k .is .few-digits);
+        zero-alone = k .is .zero-alone refl;
+        writes = refl;
+      };
+      splits = k .splits;
+      goes-on = k .goes-on;
+    };
+  }
 
 -- where the reader stands in a line, from its source on
 abbrev pub naming : ℕ → Field → List ℕ → State
@@ -211,16 +234,26 @@ module _ (a : ℕ) where
       let S : Type 0 = Split (λ x. (name-bytes x ≡ true) × (length y + length x ≤ 16)) (34 ∷ []) (λ x. naming a Comma (y ++ x)) (b ∷ t) r in
       cond-both (name-byte b) Letter (only 34 b (Next Comma)) (λ x. Arrives (turned x b (naming a Label y)) t r → S)
       (λ i. cond-both (ltb (length y) 16) (naming a Label (y ++ b ∷ [])) (goes Bad (naming a Label y)) (λ x. Arrives x t r → S)
-        (λ u w.
-          let room : length y < 16 = ltb-true _ _ u in
-          let k = letters-out t (y ++ b ∷ []) (omega (arith, length-push y b)) w in
-          record { piece = b ∷ k .piece; rest = k .rest; is = (and-from _ _ i (k .is .0), omega (arith, k .is .1, length-push y b));
-            splits = ap (λ x. b ∷ x) (k .splits); goes-on = subst (λ x. Reads (naming a Comma x) (k .rest) r) (append-assoc y (b ∷ []) (k .piece)) (k .goes-on) })
-        (λ _ w. no-way _ w))
+      (λ u w.
+      let room : length y < 16 = ltb-true _ _ u in
+      let k = letters-out t (y ++ b ∷ []) (omega (arith, length-push y b)) w in
+      record {
+        piece = b ∷ k .piece;
+        rest = k .rest;
+        is = (and-from _ _ i (k .is .0), omega (arith, k .is .1, length-push y b));
+        splits = ap (λ x. b ∷ x) (k .splits);
+        goes-on = subst (λ x. Reads (naming a Comma x) (k .rest) r) (append-assoc y (b ∷ []) (k .piece)) (k .goes-on);
+      })
+      (λ _ w. no-way _ w))
       (λ _. cond-both (eqb b 34) (Next Comma) (Next Bad) (λ x. Arrives (turned x b (naming a Label y)) t r → S)
-        (λ i w. record { piece = []; rest = t; is = (refl, omega arith); splits = ap (λ x. x ∷ t) (eqb-true b 34 i);
-          goes-on = subst (λ x. Reads (naming a Comma x) t r) (sym (append-nil y)) w })
-        (λ _ w. no-way _ w))
+      (λ i w. record {
+        piece = [];
+        rest = t;
+        is = (refl, omega arith);
+        splits = ap (λ x. x ∷ t) (eqb-true b 34 i);
+        goes-on = subst (λ x. Reads (naming a Comma x) t r) (sym (append-nil y)) w;
+      })
+      (λ _ w. no-way _ w))
       e
 
   name-in : (x t : List ℕ) {r : Place} → is-name x ≡ true → Reads (naming a Comma x) t r → Reads (naming a Initial []) (x ++ 34 ∷ t) r
@@ -237,11 +270,15 @@ module _ (a : ℕ) where
   name-out (b ∷ t) {r} e =
       cond-both (letter b) Letter (Next Bad) (λ x. Arrives (turned x b (naming a Initial [])) t r → Split (λ x. is-name x ≡ true) (34 ∷ []) (naming a Comma) (b ∷ t) r)
       (λ i w.
-        let k = letters-out t (b ∷ []) (omega arith) w in
-        let few : length (b ∷ k .piece) ≤ 16 = omega (arith, k .is .1) in
-        record { piece = b ∷ k .piece; rest = k .rest;
-          is = and-from _ _ (le-leb _ _ few) (and-from _ _ i (and-from _ _ (or-left _ _ i) (k .is .0)));
-          splits = ap (λ x. b ∷ x) (k .splits); goes-on = k .goes-on })
+      let k = letters-out t (b ∷ []) (omega arith) w in
+      let few : length (b ∷ k .piece) ≤ 16 = omega (arith, k .is .1) in
+      record {
+        piece = b ∷ k .piece;
+        rest = k .rest;
+        is = and-from _ _ (le-leb _ _ few) (and-from _ _ i (and-from _ _ (or-left _ _ i) (k .is .0)));
+        splits = ap (λ x. b ∷ x) (k .splits);
+        goes-on = k .goes-on;
+      })
       (λ _ w. no-way _ w)
       e
 

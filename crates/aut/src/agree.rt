@@ -3,11 +3,9 @@ ghost use Rattle.aut.specs.Agreement.{Agreement, One-reading};
 // The reader's way through a text and the form agree: it finds a header and lines exactly where the text has the form with these.
 pub fn agreement()
     ensures { λ _. ⌜ Agreement ⌝ }
-{
-}
+{}
 
 // A text has the form in one way only.
 pub fn one_reading()
     ensures { λ _. ⌜ One-reading ⌝ }
-{
-}
+{}

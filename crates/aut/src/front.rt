@@ -4,12 +4,12 @@ ghost use Prim.Native.Nat.{ℕ, _+_, _≤_};
 ghost use lib.ListN.{length, drop};
 ghost use Rattle.std.specs.Options.{Cases as BySome, mapped};
 ghost use Rattle.aut.specs.Front.{lines-length, Model-front, Front-read};
-use base::labels::Labels;
-use base::refusal::Refusal;
 use crate::field::Field;
 use crate::header::Header;
 use crate::reader::read_within;
 use crate::scanning::scan_line;
+use base::labels::Labels;
+use base::refusal::Refusal;
 use model::cell::Cell;
 
 // The place after some lines more, from a place of the text on.
@@ -41,7 +41,14 @@ pub fn front_length(input: &[u8]) -> Option<usize>
 }
 
 // Reads the model at the front of an input of at most `longest` bytes, and answers its length too.
-pub fn read_front(input: &[u8], longest: usize, labels: &mut Labels, cells: &mut [Cell], slots: usize, most: usize) -> Result<(Header, usize), Refusal>
+pub fn read_front(
+    input: &[u8],
+    longest: usize,
+    labels: &mut Labels,
+    cells: &mut [Cell],
+    slots: usize,
+    most: usize,
+) -> Result<(Header, usize), Refusal>
     ensures { λ r. ⌜ Front-read (now (input .entry)) longest most slots (now (labels .entry)) (now (labels .exit)) (now (cells .entry)) (now (cells .exit)) r ⌝ }
 {
     if input.len() > longest {

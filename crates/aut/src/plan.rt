@@ -1,5 +1,5 @@
-use base::labels::Labels;
 use crate::header::Header;
+use base::labels::Labels;
 
 // What the first pass hands to the second: line one, the place after it, and the label list as it will be.
 #[derive(Drop)]

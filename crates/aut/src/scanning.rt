@@ -7,7 +7,6 @@ ghost use Rattle.std.specs.Options.{Cases as BySome};
 ghost use Rattle.std.specs.declared.option.Option.the-variants.{Some, None};
 ghost use Rattle.aut.specs.Scanning.{begin, digit-in, letter-in, store-in, next, scan-on};
 ghost use Rattle.aut.specs.Views.{view};
-use base::name::Name;
 use crate::field::Field;
 use crate::field::Part;
 use crate::field::Turn;
@@ -15,15 +14,30 @@ use crate::field::byte_means;
 use crate::header::Header;
 use crate::header::Line;
 use crate::scan::Scan;
+use base::name::Name;
 
 impl Scan {
     // At the beginning of a field, with nothing read yet.
     fn at(field: Field) -> Scan
         ensures { λ r. ⌜ view r ≡ begin field ⌝ }
     {
-        let header = Header { start: 0, transitions: 0, states: 0 };
-        let line = Line { from: 0, label: Name::empty(), to: 0 };
-        Scan { field, number: 0, digits: 0, header, line }
+        let header = Header {
+            start: 0,
+            transitions: 0,
+            states: 0,
+        };
+        let line = Line {
+            from: 0,
+            label: Name::empty(),
+            to: 0,
+        };
+        Scan {
+            field,
+            number: 0,
+            digits: 0,
+            header,
+            line,
+        }
     }
 
     // One digit more: at most 5, and none after a leading zero.

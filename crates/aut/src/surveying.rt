@@ -8,11 +8,11 @@ ghost use Rattle.std.specs.declared.option.Option.the-variants.{Some, None};
 ghost use Rattle.base.specs.Listing.{listed};
 ghost use Rattle.aut.specs.Surveys.{seen, placed, noted, surveyed};
 ghost use Rattle.aut.specs.Views.{line-of};
-use base::labels::Labels;
 use crate::field::Field;
 use crate::header::Line;
 use crate::scanning::scan_line;
 use crate::survey::Survey;
+use base::labels::Labels;
 
 // No transition counted at any state.
 pub(crate) fn no_counts() -> [u8; 65536]
@@ -29,7 +29,12 @@ impl Survey {
         ensures counts { λ r. ⌜ ((s : ℕ) → getD (seen r .counts) s 0 ≡ 0) ⌝ }
         ensures flags { λ r. ⌜ (seen r .inside ≡ true) × (seen r .room ≡ true) ⌝ }
     {
-        Survey { labels, counts: no_counts(), inside: true, room: true }
+        Survey {
+            labels,
+            counts: no_counts(),
+            inside: true,
+            room: true,
+        }
     }
 
     // One transition more at its state, of at most `slots`.
@@ -64,7 +69,14 @@ impl Survey {
 }
 
 // The first pass: notes as many lines as there should be from a place of the text on. False where the text has not just these.
-pub(crate) fn survey_lines(text: &[u8], from: usize, lines: usize, states: usize, slots: usize, survey: &mut Survey) -> bool
+pub(crate) fn survey_lines(
+    text: &[u8],
+    from: usize,
+    lines: usize,
+    states: usize,
+    slots: usize,
+    survey: &mut Survey,
+) -> bool
     requires { ⌜ states ≤ 65536 ⌝ ∗ ⌜ slots ≤ 64 ⌝ ∗ ⌜ from ≤ length (now text) ⌝ }
     ensures { λ r. ⌜ When r (surveyed states slots (seen (now (survey .entry))) lines (drop from (now (text .entry))) ≡ Some (seen (now (survey .exit)))) (surveyed states slots (seen (now (survey .entry))) lines (drop from (now (text .entry))) ≡ None) ⌝ }
 {

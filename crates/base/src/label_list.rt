@@ -16,8 +16,14 @@ impl Labels {
     pub fn fresh() -> Labels
         ensures { λ r. ⌜ listed (r .table) (r .count) ≡ codes "tau" ∷ [] ⌝ }
     {
-        let tau = Name { bytes: [b't', b'a', b'u', 0, 0, 0, 0, 0, 0, 0, 0, 0, 0, 0, 0, 0], len: 3 };
-        Labels { table: [tau; 64], count: 1 }
+        let tau = Name {
+            bytes: [b't', b'a', b'u', 0, 0, 0, 0, 0, 0, 0, 0, 0, 0, 0, 0, 0],
+            len: 3,
+        };
+        Labels {
+            table: [tau; 64],
+            count: 1,
+        }
     }
 
     // The action that a name stands for.
@@ -37,7 +43,11 @@ impl Labels {
         ensures { λ r. ⌜ mapped now r ≡ nth (listed (now (self .entry) .table) (now (self .entry) .count)) action ⌝ }
     {
         let i = action as usize;
-        if i < self.count { Some(self.table[i].as_bytes()) } else { None }
+        if i < self.count {
+            Some(self.table[i].as_bytes())
+        } else {
+            None
+        }
     }
 
     // How many names there are, tau among them.

@@ -55,7 +55,10 @@ impl Name {
     pub fn empty() -> Name
         ensures { λ r. ⌜ spelled r ≡ [] ⌝ }
     {
-        Name { bytes: [0; 16], len: 0 }
+        Name {
+            bytes: [0; 16],
+            len: 0,
+        }
     }
 
     // One byte more, or false where there are 16 already.

@@ -29,9 +29,9 @@ returns-in-Break-header c =
     let f = c .in-Some .ensures tt in
     rw (p .1, p .2)
     (front-read (c .args .input .now) (c .args .longest) (c .args .most) (c .args .slots) (c .args .labels .now) (c .args .cells .now)
-      (le-ltb (c .args .longest) (length (c .args .input .now)) (c .if-input-longest .left))
-      (c .in-Some .n) (c .in-Some .n - 0) (c .read-within .last .labels) (c .read-within .last .cells) (Err (c .in-Break-header .field-0 .0)) e (f .0) (f .1) (c .in-Break-header .ensures tt)
-      (λ h j s. not-placed h j (c .in-Some .n) (c .in-Break-header .field-0 .0) s))
+    (le-ltb (c .args .longest) (length (c .args .input .now)) (c .if-input-longest .left))
+    (c .in-Some .n) (c .in-Some .n - 0) (c .read-within .last .labels) (c .read-within .last .cells) (Err (c .in-Break-header .field-0 .0)) e (f .0) (f .1) (c .in-Break-header .ensures tt)
+    (λ h j s. not-placed h j (c .in-Some .n) (c .in-Break-header .field-0 .0) s))
 
 pub returns : need.returns
 returns c =

@@ -8,11 +8,12 @@ use Rattle.aut.proofs.scanning.scan_line.Needs as need
 
 pub returns-in-Open : need.returns-in-Open
 returns-in-Open c =
-    let t = c .args .text .now in let i = c .loop-i .i in
-    ( ap (λ s. scan-on s (drop (c .args .from) t)) (sym (c .at-scan .ensures)) ∙ sym (c .loop-i .inv)
-      ∙ ends t i (view (c .loop-i .scan)) (view (c .step .last .self)) (c .loop-i-test .taken) (c .step .ensures) (c .in-Open .is)
-    , omega (arith, c .loop-i .kept .i)
-    , omega (arith, c .loop-i-test .taken) )
+    let t = c .args .text .now in let i = c .loop-i .i in (
+      ap (λ s. scan-on s (drop (c .args .from) t)) (sym (c .at-scan .ensures)) ∙ sym (c .loop-i .inv)
+          ∙ ends t i (view (c .loop-i .scan)) (view (c .step .last .self)) (c .loop-i-test .taken) (c .step .ensures) (c .in-Open .is),
+      omega (arith, c .loop-i .kept .i),
+      omega (arith, c .loop-i-test .taken),
+    )
 
 pub returns-in-Bad : need.returns-in-Bad
 returns-in-Bad c =

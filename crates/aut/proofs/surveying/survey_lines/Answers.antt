@@ -15,11 +15,12 @@ returns-in-rest c =
 pub loop-done-again : need.loop-done-again
 loop-done-again c =
     let n = c .args .states in let w = c .args .slots in let t = c .args .text .now in let found = c .in-Some .found in
-    let i = c .loop-done .-done in
-    ( ap (λ v. surveyed n w v (c .args .lines - (i + 1)) (drop (found .1) t)) (c .note .ensures)
-      ∙ sym (folds.one-line (all-noted n w) (noted n w) (λ _ _ _. refl) (seen (c .loop-done .survey)) (c .args .lines) i (drop (c .loop-done .at) t) (drop (found .1) t) (view (found .0)) (c .loop-done-test .taken) (c .in-Some .ensures tt .0))
-      ∙ c .loop-done .inv .0
-    , c .in-Some .ensures tt .2 )
+    let i = c .loop-done .-done in (
+      ap (λ v. surveyed n w v (c .args .lines - (i + 1)) (drop (found .1) t)) (c .note .ensures)
+          ∙ sym (folds.one-line (all-noted n w) (noted n w) (λ _ _ _. refl) (seen (c .loop-done .survey)) (c .args .lines) i (drop (c .loop-done .at) t) (drop (found .1) t) (view (found .0)) (c .loop-done-test .taken) (c .in-Some .ensures tt .0))
+          ∙ c .loop-done .inv .0,
+      c .in-Some .ensures tt .2,
+    )
 
 pub returns : need.returns
 returns c =

@@ -14,16 +14,21 @@ returns-then-at-ge64 c =
     let full = le-leb 64 (length xs) (omega (arith, length-listed (l .table) (l .count) (l .rows) (l .few), c .if-at-ge64 .taken)) in
     record {
       answer = sym (new-answer y xs (c .if-not-is-name .ensures tt) (c .in-rest .ensures tt) ∙ cond-true _ _ _ full);
-      names = sym (new-names y xs (c .if-not-is-name .ensures tt) (c .in-rest .ensures tt) ∙ cond-true _ _ _ full)
+      names = sym (new-names y xs (c .if-not-is-name .ensures tt) (c .in-rest .ensures tt) ∙ cond-true _ _ _ full);
     }
 
 pub ghost-self : need.ghost-self
 ghost-self c =
-    let l = c .args .self .now in let n = c .of .result in let y = c .args .name .now in
-    ( length-set (l .table) (l .count) n ∙ l .rows
-    , ( omega arith
-    , ( grown-lawful (l .table) (l .count) (l .rows) (l .few) n y (c .if-at-ge64 .left) (c .if-not-is-name .ensures tt) (c .of .ensures) (l .kept) (c .in-rest .ensures tt)
-    , tt )))
+    let l = c .args .self .now in let n = c .of .result in let y = c .args .name .now in (
+      length-set (l .table) (l .count) n ∙ l .rows,
+      (
+        omega arith,
+        (
+          grown-lawful (l .table) (l .count) (l .rows) (l .few) n y (c .if-at-ge64 .left) (c .if-not-is-name .ensures tt) (c .of .ensures) (l .kept) (c .in-rest .ensures tt),
+          tt,
+        ),
+      ),
+    )
 
 pub returns : need.returns
 returns c =
@@ -33,5 +38,5 @@ returns c =
     record {
       answer = ap Ok (sym long) ∙ sym (new-answer y xs (c .if-not-is-name .ensures tt) (c .in-rest .ensures tt) ∙ cond-false _ _ _ room);
       names = grown (l .table) (l .count) (l .rows) (l .few) (c .of .result) y (c .if-at-ge64 .left) (c .if-not-is-name .ensures tt) (c .of .ensures)
-          ∙ sym (new-names y xs (c .if-not-is-name .ensures tt) (c .in-rest .ensures tt) ∙ cond-false _ _ _ room)
+          ∙ sym (new-names y xs (c .if-not-is-name .ensures tt) (c .in-rest .ensures tt) ∙ cond-false _ _ _ room);
     }

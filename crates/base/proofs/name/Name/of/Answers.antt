@@ -12,9 +12,10 @@ pub loop-byte-again : need.loop-byte-again
 loop-byte-again c =
     let t = c .args .text .now in let i = c .loop-byte .byte-index in
     let a = sym (c .if-not-push .ensures tt .answer) in
-    let n : length (spelled (c .loop-byte .name)) ≡ i = ap length (c .loop-byte .inv .0) ∙ length-take-le i t (omega arith) in
-    ( c .push .ensures .after ∙ cond-true _ _ _ a ∙ ap (λ x. x ++ getD t i 0 ∷ []) (c .loop-byte .inv .0) ∙ sym (take-more t i 0 (c .loop-byte-test .taken))
-    , omega (arith, ltb-true _ _ a) )
+    let n : length (spelled (c .loop-byte .name)) ≡ i = ap length (c .loop-byte .inv .0) ∙ length-take-le i t (omega arith) in (
+      c .push .ensures .after ∙ cond-true _ _ _ a ∙ ap (λ x. x ++ getD t i 0 ∷ []) (c .loop-byte .inv .0) ∙ sym (take-more t i 0 (c .loop-byte-test .taken)),
+      omega (arith, ltb-true _ _ a),
+    )
 
 pub returns-then-not-push : need.returns-then-not-push
 returns-then-not-push c =

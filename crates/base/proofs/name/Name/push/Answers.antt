@@ -8,5 +8,5 @@ returns c =
     let n = c .args .self .now in
     record {
       answer = sym (roomy (n .bytes) (n .len) (n .room) (c .if-self-ge16 .left));
-      after = longer (n .bytes) (n .len) (n .room) (c .args .byte) (c .if-self-ge16 .left)
+      after = longer (n .bytes) (n .len) (n .room) (c .args .byte) (c .if-self-ge16 .left);
     }
