@@ -3,7 +3,7 @@ ghost use Rattle.aut.specs.Scanning.{turn-of};
 
 // The part of a line that is being read: of line one, `des (I,M,N)`, and of the others, `(s,"label",t)`. A gap is where one space may stand.
 #[derive(Clone, Copy)]
-pub enum Field {
+pub(crate) enum Field {
     D,
     E,
     S,
@@ -30,7 +30,7 @@ pub enum Field {
 
 // What a number is for.
 #[derive(Clone, Copy)]
-pub enum Part {
+pub(crate) enum Part {
     StartState,
     LineCount,
     StateCount,
@@ -40,7 +40,7 @@ pub enum Part {
 
 // What a byte does: leads to another field, adds a digit or a letter, or ends a number.
 #[derive(Clone, Copy)]
-pub enum Turn {
+pub(crate) enum Turn {
     Next(Field),
     Digit(Field),
     Letter,
@@ -48,7 +48,7 @@ pub enum Turn {
 }
 
 // What a byte means depends on the field being read and on the byte.
-pub fn byte_means(field: Field, byte: u8) -> Turn
+pub(crate) fn byte_means(field: Field, byte: u8) -> Turn
     ensures { λ r. ⌜ r ≡ turn-of field byte ⌝ }
 {
     match (field, byte) {

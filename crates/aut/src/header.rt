@@ -10,7 +10,7 @@ pub struct Header {
 
 // One transition as a line has it.
 #[derive(Clone, Copy)]
-pub struct Line {
+pub(crate) struct Line {
     pub(crate) from: usize,
     pub(crate) label: Name,
     pub(crate) to: usize,

@@ -1,12 +1,12 @@
 // AUT text: the reader.
 pub mod agree;
-pub mod field;
+mod field;
 pub mod front;
 pub mod header;
-pub mod laying;
-pub mod plan;
+mod laying;
+mod plan;
 pub mod reader;
-pub mod scan;
-pub mod scanning;
-pub mod survey;
-pub mod surveying;
+mod scan;
+mod scanning;
+mod survey;
+mod surveying;

@@ -5,7 +5,7 @@ use crate::header::Line;
 
 // The reader within a line: the field, the number being read with its count of digits, and what was read before.
 #[derive(Clone, Copy)]
-pub struct Scan {
+pub(crate) struct Scan {
     pub(crate) field: Field,
     pub(crate) number: usize,
     pub(crate) digits: usize,

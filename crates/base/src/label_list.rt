@@ -7,6 +7,7 @@ ghost use Rattle.base.specs.Listing.{listed, spelled, action-of, add-answer, a
 ghost use Rattle.std.specs.Options.{mapped};
 ghost use Rattle.std.specs.shelf.Maps.{nth};
 use crate::labels::Labels;
+use crate::labels::MOST_NAMES;
 use crate::name::Name;
 use crate::refusal::Refusal;
 use crate::spelling::is_name;
@@ -54,7 +55,7 @@ impl Labels {
     pub fn count(&self) -> usize
         ensures { λ r. ⌜ r ≡ length (listed (now (self .entry) .table) (now (self .entry) .count)) ⌝ }
     {
-        self.count
+        self.table[0..self.count].len()
     }
 
     // The action of a name, which is added at the end if it is new.
@@ -69,7 +70,7 @@ impl Labels {
             return Ok(action);
         }
         let at = self.count;
-        if at >= 64 {
+        if at >= MOST_NAMES {
             return Err(Refusal::Crowded);
         }
         self.table[at] = Name::of(name);

@@ -5,6 +5,9 @@ ghost use lib.ListN.{length};
 ghost use Rattle.base.specs.Listing.{listed, lawful};
 use crate::name::Name;
 
+// The most names that a label list has: tau and 63 others.
+pub const MOST_NAMES: usize = 64;
+
 // A label list: the names of the actions, each at its action's number. Tau is action 0; no name stands twice.
 #[derive(Clone, Copy)]
 pub struct Labels {

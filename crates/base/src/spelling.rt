@@ -6,6 +6,7 @@ ghost use lib.ListN.{length, take};
 ghost use Rattle.std.specs.shelf.Text.{sameBytes};
 ghost use Rattle.base.specs.Listing.{spelled};
 ghost use Rattle.base.specs.Names.{letter, name-byte, name-bytes, begins-name, is-name};
+use crate::name::LONGEST_NAME;
 use crate::name::Name;
 
 // Whether a byte is a lower-case letter.
@@ -47,7 +48,7 @@ fn begins_with_letter(text: &[u8]) -> bool
 pub fn is_name(text: &[u8]) -> bool
     ensures { λ r. ⌜ r ≡ is-name (now (text .entry)) ⌝ }
 {
-    text.len() <= 16 && (begins_with_letter(text) && has_name_bytes(text))
+    text.len() <= LONGEST_NAME && (begins_with_letter(text) && has_name_bytes(text))
 }
 
 impl Name {
@@ -66,7 +67,7 @@ impl Name {
         ensures answer { λ r. ⌜ r ≡ ltb (length (spelled (now (self .entry)))) 16 ⌝ }
         ensures after { λ _. ⌜ spelled (now (self .exit)) ≡ cond (ltb (length (spelled (now (self .entry)))) 16) (spelled (now (self .entry)) ++ byte ∷ []) (spelled (now (self .entry))) ⌝ }
     {
-        if self.len >= 16 {
+        if self.len >= LONGEST_NAME {
             return false;
         }
         self.bytes[self.len] = byte;

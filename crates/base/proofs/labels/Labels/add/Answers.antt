@@ -8,10 +8,10 @@ use Rattle.base.specs.Listing.{listed}
 use Rattle.base.proofs.Listed.{length-listed, new-answer, new-names, grown, grown-lawful}
 use Rattle.base.proofs.labels.Labels.add.Needs as need
 
-pub returns-then-at-ge64 : need.returns-then-at-ge64
-returns-then-at-ge64 c =
+pub returns-then-at-ge-MOST-NAMES : need.returns-then-at-ge-MOST-NAMES
+returns-then-at-ge-MOST-NAMES c =
     let l = c .args .self .now in let xs = listed (l .table) (l .count) in let y = c .args .name .now in
-    let full = le-leb 64 (length xs) (omega (arith, length-listed (l .table) (l .count) (l .rows) (l .few), c .if-at-ge64 .taken)) in
+    let full = le-leb 64 (length xs) (omega (arith, length-listed (l .table) (l .count) (l .rows) (l .few), c .if-at-ge-MOST-NAMES .taken)) in
     record {
       answer = sym (new-answer y xs (c .if-not-is-name .ensures tt) (c .in-rest .ensures tt) ∙ cond-true _ _ _ full);
       names = sym (new-names y xs (c .if-not-is-name .ensures tt) (c .in-rest .ensures tt) ∙ cond-true _ _ _ full);
@@ -24,7 +24,7 @@ ghost-self c =
       (
         omega arith,
         (
-          grown-lawful (l .table) (l .count) (l .rows) (l .few) n y (c .if-at-ge64 .left) (c .if-not-is-name .ensures tt) (c .of .ensures) (l .kept) (c .in-rest .ensures tt),
+          grown-lawful (l .table) (l .count) (l .rows) (l .few) n y (c .if-at-ge-MOST-NAMES .left) (c .if-not-is-name .ensures tt) (c .of .ensures) (l .kept) (c .in-rest .ensures tt),
           tt,
         ),
       ),
@@ -34,9 +34,9 @@ pub returns : need.returns
 returns c =
     let l = c .args .self .now in let xs = listed (l .table) (l .count) in let y = c .args .name .now in
     let long = length-listed (l .table) (l .count) (l .rows) (l .few) in
-    let room = lt-leb 64 (length xs) (omega (arith, long, c .if-at-ge64 .left)) in
+    let room = lt-leb 64 (length xs) (omega (arith, long, c .if-at-ge-MOST-NAMES .left)) in
     record {
       answer = ap Ok (sym long) ∙ sym (new-answer y xs (c .if-not-is-name .ensures tt) (c .in-rest .ensures tt) ∙ cond-false _ _ _ room);
-      names = grown (l .table) (l .count) (l .rows) (l .few) (c .of .result) y (c .if-at-ge64 .left) (c .if-not-is-name .ensures tt) (c .of .ensures)
+      names = grown (l .table) (l .count) (l .rows) (l .few) (c .of .result) y (c .if-at-ge-MOST-NAMES .left) (c .if-not-is-name .ensures tt) (c .of .ensures)
           ∙ sym (new-names y xs (c .if-not-is-name .ensures tt) (c .in-rest .ensures tt) ∙ cond-false _ _ _ room);
     }

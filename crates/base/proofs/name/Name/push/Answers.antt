@@ -7,6 +7,6 @@ pub returns : need.returns
 returns c =
     let n = c .args .self .now in
     record {
-      answer = sym (roomy (n .bytes) (n .len) (n .room) (c .if-self-ge16 .left));
-      after = longer (n .bytes) (n .len) (n .room) (c .args .byte) (c .if-self-ge16 .left);
+      answer = sym (roomy (n .bytes) (n .len) (n .room) (c .if-self-ge-LONGEST-NAME .left));
+      after = longer (n .bytes) (n .len) (n .room) (c .args .byte) (c .if-self-ge-LONGEST-NAME .left);
     }
