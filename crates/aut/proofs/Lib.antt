@@ -7,3 +7,6 @@ mod Walks
 mod Plans
 mod Outcomes
 mod Fronts
+mod Puts
+mod Spelled
+mod Moves

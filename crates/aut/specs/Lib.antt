@@ -6,3 +6,4 @@ pub mod Laying
 pub mod Reading
 pub mod Agreement
 pub mod Front
+pub mod Writing

@@ -1,2 +1,12 @@
 pub mod Deadlocks
 pub mod Rows
+pub mod Fullpaths
+pub mod Sets
+pub mod Operators
+pub mod Lassos
+pub mod Deciding
+pub mod Lightest
+pub mod Turns
+pub mod Reference
+pub mod Derived
+pub mod Examples

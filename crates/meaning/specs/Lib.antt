@@ -1,2 +1,11 @@
 pub mod Lts
+pub mod Rows
+pub mod Paths
+pub mod Formula
+pub mod Deciding
+pub mod Sets
+pub mod Weights
+pub mod Sheets
+pub mod Reference
 pub mod Laws
+pub mod Examples
