@@ -10,3 +10,6 @@ mod Fronts
 mod Puts
 mod Spelled
 mod Moves
+mod Forms
+mod RoundTrip
+mod Copies

@@ -7,3 +7,4 @@ pub mod Reading
 pub mod Agreement
 pub mod Front
 pub mod Writing
+pub mod Back

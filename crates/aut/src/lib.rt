@@ -1,5 +1,6 @@
 // AUT text: the reader and the writer.
 pub mod agree;
+pub mod copy;
 mod field;
 pub mod front;
 pub mod header;

@@ -59,7 +59,7 @@ unknown k name (x ∷ xs) h = at (sameBytes x name) (λ e. unknown (k + 1) name 
     at true f e = let z : _≡_ {A = ℕ} 0 1 = cc in absurd (omega arith)
     at false f e = f e
 
-same-turned : (x y : List ℕ) → sameBytes x y ≡ false → sameBytes y x ≡ false
+pub same-turned : (x y : List ℕ) → sameBytes x y ≡ false → sameBytes y x ≡ false
 same-turned x y h =
     ⊎-elim (λ t. absurd (both-ways (sameBytes x y) h (sameBytes-decides x y .1 (sym (sameBytes-decides y x .0 t))))) (λ f. f) (cases-bool (sameBytes y x))
 
