@@ -1,3 +1,4 @@
 pub mod AllOf
 mod OneMore
 pub mod Listed
+mod Bitwise

@@ -1,3 +1,4 @@
 pub mod Refusals
 pub mod Names
 pub mod Listing
+pub mod Sets

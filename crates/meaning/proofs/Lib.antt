@@ -10,3 +10,5 @@ pub mod Turns
 pub mod Reference
 pub mod Derived
 pub mod Examples
+pub mod Counters
+pub mod Joins

@@ -9,3 +9,5 @@ pub mod Sheets
 pub mod Reference
 pub mod Laws
 pub mod Examples
+pub mod Retries
+pub mod Joins

@@ -1,0 +1,3 @@
+// Joined models on examples.
+#[cfg(test)]
+mod tests;
