@@ -1,0 +1,13 @@
+mod Buildings
+mod Choices
+mod Complete
+mod Decoding
+mod Entries
+mod Findings
+mod Layings
+mod Lexing
+mod Readings
+mod Runs
+mod Shapes
+mod Sound
+mod Stages

@@ -1,0 +1,12 @@
+pub mod Agreement
+pub mod Building
+pub mod Choosing
+pub mod Entering
+pub mod Finding
+pub mod Formulas
+pub mod Grammar
+pub mod Laying
+pub mod Places
+pub mod Reading
+pub mod Tokens
+pub mod Trees
