@@ -1,11 +1,15 @@
 ghost use mathlib.Core.Path.{_≡_};
+ghost use Prim.Native.Nat.{_≤_};
+ghost use lib.ListN.{length};
 ghost use Rattle.std.specs.Of.String.{string-bytes};
 ghost use Rattle.std.specs.Vec.{made};
-ghost use Rattle.actlw.specs.Printed.{summary-of};
+ghost use Rattle.actlw.specs.Printed.{summary-of, line-end};
 use aut::front::read_front;
 use aut::header::Header;
 use base::labels::Labels;
 use base::refusal::Refusal;
+use formula::enter::enter;
+use formula::nodes::Nodes;
 use model::cell::Cell;
 use model::deadlock::deadlocks;
 use model::grid::Grid;
@@ -65,6 +69,50 @@ fn refuse(rt: &LibcRuntime, why: Refusal) -> io::Result<()> {
     println!(rt, "refused {number}")
 }
 
+// Where the line ends that begins at a place of the text: at its byte 10, or at the end of the text.
+fn line_end(text: &[u8], from: usize) -> usize
+    ensures place { λ r. ⌜ r ≡ line-end (now (text .entry)) from ⌝ }
+    ensures bound { λ r. ⌜ (from ≤ length (now (text .entry)) → r ≤ length (now (text .entry))) ⌝ }
+    ensures onward { λ r. ⌜ from ≤ r ⌝ }
+{
+    for i in from..text.len() {
+        if text[i] == b'\n' {
+            return i;
+        }
+    }
+    text.len().max(from)
+}
+
+// Enters the formula lines from a place of the input on, and says of each what was read. A refused one takes no number.
+fn read_formulas(rt: &LibcRuntime, input: &[u8], from: usize, labels: &Labels) -> io::Result<()> {
+    let mut nodes = Nodes::fresh();
+    let mut number = 0usize;
+    let mut at = from;
+    while at < input.len() {
+        let end = line_end(input, at);
+        let before = nodes.count();
+        match enter(&mut nodes, &input[at..end], labels) {
+            Ok(_) => {
+                let size = nodes.count().saturating_sub(before);
+                println!(rt, "formula {number}: {size} nodes")?;
+                number = number.saturating_add(1);
+            }
+            Err(why) => refuse(rt, why)?,
+        }
+        at = end.saturating_add(1);
+    }
+    Ok(())
+}
+
+// Says what was read of the model.
+fn report(rt: &LibcRuntime, header: Header, labels: &Labels, cells: &[Cell]) -> io::Result<()> {
+    let (grid, refusal) = Grid::over(cells, header.states, SLOTS, header.start);
+    if let Some(why) = refusal {
+        return refuse(rt, why);
+    }
+    rt.println(summary(rt.alloc(), header, labels.count() - 1, deadlocks(&grid))?)
+}
+
 fn main(rt: LibcRuntime) -> io::Result<()> {
     let input = read_input(&rt)?;
     let mut labels = Labels::fresh();
@@ -73,7 +121,7 @@ fn main(rt: LibcRuntime) -> io::Result<()> {
         action: 0,
         target: 0,
     }; CELLS];
-    let header = match read_front(
+    match read_front(
         input.as_slice(),
         MOST_INPUT,
         &mut labels,
@@ -81,13 +129,10 @@ fn main(rt: LibcRuntime) -> io::Result<()> {
         SLOTS,
         MOST_STATES,
     ) {
-        Ok((header, _)) => header,
-        Err(why) => return refuse(&rt, why),
-    };
-    let (grid, refusal) = Grid::over(&cells, header.states, SLOTS, header.start);
-    if let Some(why) = refusal {
-        return refuse(&rt, why);
+        Ok((header, length)) => {
+            report(&rt, header, &labels, &cells)?;
+            read_formulas(&rt, input.as_slice(), length, &labels)
+        }
+        Err(why) => refuse(&rt, why),
     }
-    let line = summary(rt.alloc(), header, labels.count() - 1, deadlocks(&grid))?;
-    rt.println(line)
 }
