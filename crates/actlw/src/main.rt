@@ -1,3 +1,5 @@
+#![tactic(auto)]
+
 ghost use Rattle.std.specs.Prelude.{◌≡◌, ◌≤◌, length, IfOk, string_bytes};
 ghost use Rattle.actlw.specs.Printed.{summary_of, line_end};
 
@@ -7,14 +9,9 @@ use base::labels::Labels;
 use base::refusal::Refusal;
 use formula::enter::enter;
 use formula::nodes::Nodes;
-use marking::count::count;
-use marking::node::mark;
 use model::cell::Cell;
 use model::deadlock::deadlocks;
 use model::grid::Grid;
-use model::question::Model;
-use shelf::bit_shelf::BitShelf;
-use shelf::shelf::Shelf;
 use std::alloc::{AllocError, Global};
 use std::io;
 use std::io::Read;
@@ -26,11 +23,7 @@ const MOST_STATES: usize = 512;
 
 const SLOTS: usize = 8;
 
-// Cells for so many states and slots.
 const CELLS: usize = 4_096;
-
-// Bytes for a shelf over so many states: 64 rows of a bit for each.
-const SHELF: usize = 4_096;
 
 // Standard input, as far as one byte past what the program takes.
 fn read_input(rt: &HostRuntime) -> io::Result<Vec<u8>> {
@@ -86,54 +79,18 @@ fn line_end(text: &[u8], from: usize) -> usize
     text.len().max(from)
 }
 
-// How many nodes a formula has, and at how many states it holds.
-struct Outcome {
-    nodes: usize,
-    holds: usize,
-}
-
-// Enters a formula, and marks each of its nodes on the sheet of its number.
-fn enter_and_mark<M: Model, S: Shelf>(
-    text: &[u8],
-    labels: &Labels,
-    model: &M,
-    shelf: &mut S,
-    nodes: &mut Nodes,
-) -> Result<Outcome, Refusal> {
-    let before = nodes.count();
-    let root = enter(nodes, text, labels)?;
-    for number in before..nodes.count() {
-        if let Some(node) = nodes.node(number) {
-            mark(model, shelf, node, number)?;
-        }
-    }
-    Ok(Outcome {
-        nodes: nodes.count().saturating_sub(before),
-        holds: count(shelf, root),
-    })
-}
-
-// Enters and marks the formula lines from a place of the input on, and says of each what came out. A refused one takes no number.
-fn read_formulas<M: Model>(
-    rt: &HostRuntime,
-    input: &[u8],
-    from: usize,
-    labels: &Labels,
-    model: &M,
-) -> io::Result<()> {
-    let mut bytes = [0; SHELF];
-    let states = model.states();
-    let mut shelf = BitShelf::open(&mut bytes, states);
+// Enters the formula lines from a place of the input on, and says of each what was read. A refused one takes no number.
+fn read_formulas(rt: &HostRuntime, input: &[u8], from: usize, labels: &Labels) -> io::Result<()> {
     let mut nodes = Nodes::fresh();
     let mut number = 0usize;
     let mut at = from;
     while at < input.len() {
         let end = line_end(input, at);
-        match enter_and_mark(&input[at..end], labels, model, &mut shelf, &mut nodes) {
-            Ok(Outcome { nodes: size, holds }) => {
-                println!(rt;
-                    "formula {number}: {size} nodes, holds at {holds} of {states} states"
-                )?;
+        let before = nodes.count();
+        match enter(&mut nodes, &input[at..end], labels) {
+            Ok(_) => {
+                let size = nodes.count().saturating_sub(before);
+                println!(rt; "formula {number}: {size} nodes")?;
                 number = number.saturating_add(1);
             }
             Err(why) => refuse(rt, why)?,
@@ -143,21 +100,13 @@ fn read_formulas<M: Model>(
     Ok(())
 }
 
-// Says what was read: the model, and then the formulas after its text.
-fn report(
-    rt: &HostRuntime,
-    header: Header,
-    labels: &Labels,
-    cells: &[Cell],
-    input: &[u8],
-    length: usize,
-) -> io::Result<()> {
+// Says what was read of the model.
+fn report(rt: &HostRuntime, header: Header, labels: &Labels, cells: &[Cell]) -> io::Result<()> {
     let (grid, refusal) = Grid::over(cells, header.states, SLOTS, header.start);
     if let Some(why) = refusal {
         return refuse(rt, why);
     }
-    rt.println(summary(rt.alloc(), header, labels.count() - 1, deadlocks(&grid))?)?;
-    read_formulas(rt, input, length, labels, &grid)
+    rt.println(summary(rt.alloc(), header, labels.count() - 1, deadlocks(&grid))?)
 }
 
 fn main(rt: HostRuntime) -> io::Result<()> {
@@ -176,7 +125,10 @@ fn main(rt: HostRuntime) -> io::Result<()> {
         SLOTS,
         MOST_STATES,
     ) {
-        Ok((header, length)) => report(&rt, header, &labels, &cells, input.as_slice(), length),
+        Ok((header, length)) => {
+            report(&rt, header, &labels, &cells)?;
+            read_formulas(&rt, input.as_slice(), length, &labels)
+        }
         Err(why) => refuse(&rt, why),
     }
 }

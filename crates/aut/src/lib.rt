@@ -1,4 +1,6 @@
 // AUT text: the reader and the writer.
+#![tactic(auto)]
+
 pub mod agree;
 pub mod copy;
 mod field;

@@ -1,5 +1,7 @@
 // Runs the reader on a table of texts, one a line of standard input, and prints what it answers and leaves.
 // A line is S, the number of cells, and the text, in which \n stands for byte 10 and \\ for a backslash.
+#![tactic(auto)]
+
 use aut::header::Header;
 use aut::reader::read;
 use base::labels::Labels;

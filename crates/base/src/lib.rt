@@ -1,4 +1,6 @@
 // What every other crate speaks of: refusals, names and label lists.
+#![tactic(auto)]
+
 pub mod action_set;
 pub mod label_list;
 pub mod labels;

@@ -2,26 +2,25 @@
 use Rattle.std.proofs.Common.{◌≡◌, ℕ, ◌+◌, ◌-◌, ◌<◌, ◌≤◌, Bool, true, false, cond, ltb, ◌⊎◌, List, [], ◌∷◌, ◌++◌, length, get_or, Some, None, Option, sym, refl, ap, ◌∙◌, subst, inl, inr, ⊎_elim, arith}
 use Rattle.std.proofs.lemmas.List.{append_assoc, length-append, length_push, get_or_push, get_or_append_left}
 use Rattle.std.proofs.lemmas.Bool.{cases_lt, cond-true, cond-false, lt-ltb, le-ltb}
-use Rattle.meaning.specs.Formula.{Formula, TRUE, FALSE, NOT, AND, OR}
-use Rattle.formula.specs.Formulas.{short, path, by_names, size}
+use Rattle.formula.specs.Formulas.{Formula, TRUE, FALSE, NOT, AND, OR, short, path, by_names, size}
 use Rattle.formula.specs.Choosing.{set_of}
-use Rattle.formula.specs.Laying.{Shape, true_node, false_node, not_node, and_node, or_node, short_node, path_node, build, known, grow, formula_at, DraftState, push, top, lay}
+use Rattle.formula.specs.Laying.{Shape, true_node, false_node, not_node, and_node, or_node, short_node, path_node, build, grow, formula_at, DraftState, push, top, lay}
 use Rattle.formula.specs.Trees as tree
 use Rattle.formula.specs.Trees.{Tree}
 
 -- the formulas of nodes, in two goes
 grow-append : (fs : List Formula) (xs ys : List Shape) → grow fs (xs ++ ys) ≡ grow (grow fs xs) ys
 grow-append fs [] ys = refl
-grow-append fs (x ∷ xs) ys = grow-append (fs ++ build (known fs) x ∷ []) xs ys
+grow-append fs (x ∷ xs) ys = grow-append (fs ++ build fs x ∷ []) xs ys
 
 length-grow : (fs : List Formula) (xs : List Shape) → length (grow fs xs) ≡ length fs + length xs
 length-grow fs [] = omega arith
-length-grow fs (x ∷ xs) = omega (arith, length-grow (fs ++ build (known fs) x ∷ []) xs, length_push fs (build (known fs) x))
+length-grow fs (x ∷ xs) = omega (arith, length-grow (fs ++ build fs x ∷ []) xs, length_push fs (build fs x))
 
 grow-keeps : (fs : List Formula) (xs : List Shape) (k : ℕ) → k < length fs → get_or (grow fs xs) k TRUE ≡ get_or fs k TRUE
 grow-keeps fs [] k h = refl
 grow-keeps fs (x ∷ xs) k h =
-    grow-keeps (fs ++ build (known fs) x ∷ []) xs k (omega (arith, length_push fs (build (known fs) x))) ∙ get_or_append_left fs (build (known fs) x ∷ []) TRUE k h
+    grow-keeps (fs ++ build fs x ∷ []) xs k (omega (arith, length_push fs (build fs x))) ∙ get_or_append_left fs (build fs x ∷ []) TRUE k h
 
 pub earlier : (xs ys : List Shape) (k : ℕ) → k < length xs → formula_at (xs ++ ys) k ≡ formula_at xs k
 earlier xs ys k h = ap (λ fs. get_or fs k TRUE) (grow-append [] xs ys) ∙ grow-keeps (grow [] xs) ys k (omega (arith, length-grow [] xs))
@@ -30,11 +29,11 @@ earlier xs ys k h = ap (λ fs. get_or fs k TRUE) (grow-append [] xs ys) ∙ grow
 abbrev root_of : List Shape → Formula
 root_of xs = formula_at xs (length xs - 1)
 
-last_node : (xs : List Shape) (x : Shape) → root_of (xs ++ x ∷ []) ≡ build (known (grow [] xs)) x
+last_node : (xs : List Shape) (x : Shape) → root_of (xs ++ x ∷ []) ≡ build (grow [] xs) x
 last_node xs x =
     let e : length (xs ++ x ∷ []) - 1 ≡ length xs = omega (arith, length_push xs x) in
     ap (λ k. formula_at (xs ++ x ∷ []) k) e ∙ ap (λ fs. get_or fs (length xs) TRUE) (grow-append [] xs (x ∷ []))
-    ∙ get_or_push (grow [] xs) (build (known (grow [] xs)) x) TRUE (length xs) (omega (arith, length-grow [] xs))
+    ∙ get_or_push (grow [] xs) (build (grow [] xs) x) TRUE (length xs) (omega (arith, length-grow [] xs))
 
 some_nodes : (t : Tree) → 1 ≤ size t
 some_nodes tree.TRUE = omega arith
@@ -79,7 +78,7 @@ module _ (names : List (List ℕ)) where
   Laid t xs = Put names t xs ⊎ Over names t xs
 
   -- a node without any below it
-  alone : (w : Tree) (x : Shape) (xs : List Shape) → lay names w (Some xs) ≡ push (Some xs) x → size w ≡ 1 → ((fs : List Formula) → build (known fs) x ≡ by_names names w) → length xs ≤ 48 → Laid w xs
+  alone : (w : Tree) (x : Shape) (xs : List Shape) → lay names w (Some xs) ≡ push (Some xs) x → size w ≡ 1 → ((fs : List Formula) → build fs x ≡ by_names names w) → length xs ≤ 48 → Laid w xs
   alone w x xs e s b h =
       ⊎_elim
       (λ l. inl (record { room = omega arith; new = x ∷ []; is = e ∙ pushed xs x l; long = sym s; root = last_node xs x ∙ b (grow [] xs) }))
@@ -88,7 +87,7 @@ module _ (names : List (List ℕ)) where
 
   -- one with one below it
   above : (w t : Tree) (f : ℕ → Shape) (xs : List Shape) → lay names w (Some xs) ≡ push (lay names t (Some xs)) (f (top (lay names t (Some xs)))) → size w ≡ size t + 1 →
-      ((fs : List Formula) (k : ℕ) → get_or fs k TRUE ≡ by_names names t → build (known fs) (f k) ≡ by_names names w) → Laid t xs → Laid w xs
+      ((fs : List Formula) (k : ℕ) → get_or fs k TRUE ≡ by_names names t → build fs (f k) ≡ by_names names w) → Laid t xs → Laid w xs
   above w t f xs e s b (inr o) = inr (record { no_room = omega (arith, o.no_room); is = e ∙ ap (λ x. push x (f (top x))) o.is })
   above w t f xs e s b (inl p) =
       let ys : List Shape = xs ++ p.new in
@@ -109,7 +108,7 @@ module _ (names : List (List ℕ)) where
   module _ (w t u : Tree) (f : ℕ → ℕ → Shape) (xs : List Shape)
       (e : lay names w (Some xs) ≡ push (lay names u (lay names t (Some xs))) (f (top (lay names t (Some xs))) (top (lay names u (lay names t (Some xs))))))
       (s : size w ≡ size t + size u + 1)
-      (b : (fs : List Formula) (k m : ℕ) → get_or fs k TRUE ≡ by_names names t → get_or fs m TRUE ≡ by_names names u → build (known fs) (f k m) ≡ by_names names w) where
+      (b : (fs : List Formula) (k m : ℕ) → get_or fs k TRUE ≡ by_names names t → get_or fs m TRUE ≡ by_names names u → build fs (f k m) ≡ by_names names w) where
     second : (p : Put names t xs) → Laid u (xs ++ p.new) → Laid w xs
     second p (inr o) =
         let n : length (xs ++ p.new) ≡ length xs + size t = length-append xs p.new ∙ ap (λ k. length xs + k) p.long in

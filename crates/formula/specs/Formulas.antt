@@ -1,38 +1,23 @@
--- The formula that a text says, and how many nodes it has.
-use Rattle.std.specs.Prelude.{ℕ, ◌+◌, List}
-use Rattle.meaning.specs.Formula as meant
-use Rattle.meaning.specs.Formula.{Actions, Formula, TRUE, FALSE, NOT, AND, OR, EX, EF, EG, AX, AF, AG}
+-- Formulas with sets of actions in place of action formulas.
+use Rattle.std.specs.Prelude.{ℕ, ◌+◌, Bool, List}
 use Rattle.formula.specs.declared.mark.Operator.{Operator}
-use Rattle.formula.specs.declared.mark.Operator.TheVariants.{Ex, Ef, Eg, Ax, Af, Ag}
 use Rattle.formula.specs.declared.mark.Quantifier.{Quantifier}
-use Rattle.formula.specs.declared.mark.Quantifier.TheVariants.{Some, Every}
 use Rattle.formula.specs.declared.mark.Link.{Link}
-use Rattle.formula.specs.declared.mark.Link.TheVariants.{Until, Unless}
 use Rattle.formula.specs.Choosing.{set_of}
 use Rattle.formula.specs.Trees as tree
 use Rattle.formula.specs.Trees.{Tree}
 
--- an operator with one part
-abbrev pub short : Operator → Actions → Formula → Formula
-short Ex c f = EX c f
-short Ef c f = EF c f
-short Eg c f = EG c f
-short Ax c f = AX c f
-short Af c f = AF c f
-short Ag c f = AG c f
+abbrev pub Actions : Type 0
+Actions = ℕ → Bool
 
--- the quantifiers and links that are read, as the meaning has them
-abbrev pub quantifier : Quantifier → meant.Quantifier
-quantifier Some = meant.E
-quantifier Every = meant.A
-
-abbrev pub temporal : Link → meant.Temporal
-temporal Until = meant.U
-temporal Unless = meant.W
-
--- an operator with two parts
-abbrev pub path : Quantifier → Link → Actions → Formula → Actions → Formula → Formula
-path q l c f d g = meant.path (quantifier q) (temporal l) c f d g
+pub data Formula : Type 0 where
+  TRUE : Formula
+  FALSE : Formula
+  NOT : Formula → Formula
+  AND : Formula → Formula → Formula
+  OR : Formula → Formula → Formula
+  short : Operator → Actions → Formula → Formula
+  path : Quantifier → Link → Actions → Formula → Actions → Formula → Formula
 
 -- the formula that a tree is, by a list of names
 abbrev pub by_names : List (List ℕ) → Tree → Formula

@@ -8,8 +8,7 @@ use Rattle.formula.specs.declared.node.Node.TheVariants as node
 use Rattle.formula.specs.declared.nodes.Nodes.{Nodes}
 use Rattle.formula.specs.declared.nodes.Draft.{Draft}
 use Rattle.formula.specs.Choosing.{set_of}
-use Rattle.meaning.specs.Formula.{Actions, Formula, TRUE, FALSE, NOT, AND, OR}
-use Rattle.formula.specs.Formulas.{short, path}
+use Rattle.formula.specs.Formulas.{Actions, Formula, TRUE, FALSE, NOT, AND, OR, short, path}
 use Rattle.base.specs.Sets.{holds}
 use Rattle.formula.specs.Trees as tree
 use Rattle.formula.specs.Trees.{Tree}
@@ -37,28 +36,24 @@ shape (node.Path q l c k d m) = path_node q l (holds c) k (holds d) m
 abbrev pub shapes : List Node → ℕ → List Shape
 shapes table count = map shape (take count table)
 
--- the formula of a node, by the formulas of its children
-abbrev pub build : (ℕ → Formula) → Shape → Formula
-build of true_node = TRUE
-build of false_node = FALSE
-build of (not_node k) = NOT (of k)
-build of (and_node k m) = AND (of k) (of m)
-build of (or_node k m) = OR (of k) (of m)
-build of (short_node o c k) = short o c (of k)
-build of (path_node q l c k d m) = path q l c (of k) d (of m)
-
--- the formulas so far, by number
-abbrev pub known : List Formula → ℕ → Formula
-known fs k = slice_index_or fs k TRUE
+-- the formula of a node, by the formulas of the nodes before it
+abbrev pub build : List Formula → Shape → Formula
+build fs true_node = TRUE
+build fs false_node = FALSE
+build fs (not_node k) = NOT (slice_index_or fs k TRUE)
+build fs (and_node k m) = AND (slice_index_or fs k TRUE) (slice_index_or fs m TRUE)
+build fs (or_node k m) = OR (slice_index_or fs k TRUE) (slice_index_or fs m TRUE)
+build fs (short_node o c k) = short o c (slice_index_or fs k TRUE)
+build fs (path_node q l c k d m) = path q l c (slice_index_or fs k TRUE) d (slice_index_or fs m TRUE)
 
 -- the formulas of the nodes, after those of the nodes before them
 abbrev pub grow : List Formula → List Shape → List Formula
 grow fs [] = fs
-grow fs (x ∷ xs) = grow (fs ++ build (known fs) x ∷ []) xs
+grow fs (x ∷ xs) = grow (fs ++ build fs x ∷ []) xs
 
 -- the formula that a node number stands for
 abbrev pub formula_at : List Shape → ℕ → Formula
-formula_at xs k = known (grow [] xs) k
+formula_at xs k = slice_index_or (grow [] xs) k TRUE
 
 -- nodes as far as they are written, or none once one found no room
 abbrev pub DraftState : Type 0

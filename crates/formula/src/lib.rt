@@ -1,4 +1,6 @@
 // Formulas: from the text to a table of nodes.
+#![tactic(auto)]
+
 pub mod actions;
 pub mod agree;
 pub mod built;

@@ -1,5 +1,7 @@
 // Reads a table of formulas, one a line of standard input, and prints the nodes that each makes or why it is refused. In a line \xHH stands
 // for the byte with that hexadecimal number. The label list is tau, a, b, c and abcdefghijklmnop.
+#![tactic(auto)]
+
 use base::action_set::ActionSet;
 use base::labels::Labels;
 use base::refusal::Refusal;

@@ -1,5 +1,7 @@
 // Joins two retry counters that are answered together, writes the product as AUT text, reads that text back, and says whether the
 // transitions agree.
+#![tactic(auto)]
+
 use aut::copy::copy_through_text;
 use aut::writer::write;
 use base::action_set::ActionSet;

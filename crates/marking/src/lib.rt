@@ -1,4 +1,6 @@
 // Marking: writes on a sheet of a shelf the states at which the formula of a node holds, from the sheets of its children.
+#![tactic(auto)]
+
 pub mod count;
 mod direction;
 mod gate;

@@ -1,5 +1,7 @@
 // Marks a table of formulas, one a line of standard input, on six models with both shelves, and prints at which states of each model a
 // formula holds. The last model is a grid with the transitions of the joined one before it.
+#![tactic(auto)]
+
 use aut::copy::copy_through_text;
 use aut::reader::read;
 use base::action_set::ActionSet;

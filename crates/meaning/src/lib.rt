@@ -1,4 +1,5 @@
 // What a formula means over a transition system. The definitions stand in specs/; each function here has a theorem as its contract.
+#![tactic(auto)]
 
 ghost use Rattle.meaning.specs.Examples.{WorkedExamples, AgSkips};
 ghost use Rattle.meaning.specs.Laws.{DeadlockTest, FullpathExists, UnlessReads, DerivedReads, AtDeadlock, DeadlockVerdicts};

@@ -1,3 +1,5 @@
 // Joined models on examples.
+#![tactic(auto)]
+
 #[cfg(test)]
 mod tests;

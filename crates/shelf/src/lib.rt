@@ -1,4 +1,6 @@
 // Shelves: what holds the marks of states, sheet by sheet.
+#![tactic(auto)]
+
 pub mod bit_shelf;
 pub mod column_shelf;
 mod overwrite;
