@@ -1,39 +1,23 @@
-use Rattle.std.proofs.Common.{◌≡◌, length, Ok, sym, ap, ◌∙◌, arith}
+use Rattle.std.proofs.Common.{length, sym, ◌∙◌, arith}
 use Rattle.std.proofs.lemmas.List.{length-set}
 use Rattle.std.proofs.lemmas.Bool.{le-leb, lt-leb, cond-true, cond-false}
 use Rattle.base.specs.Listing.{listed}
-use Rattle.base.proofs.Listed.{length-listed, new-answer, new-names, grown, grown-lawful}
+use Rattle.base.proofs.Listed.{length-listed, new-names, grown, grown-lawful}
 use Rattle.base.proofs.labels.Labels.add.Goals as goal
 
-pub returns-then-at-ge-MOST-NAMES : goal.returns-then-at-ge-MOST-NAMES
-returns-then-at-ge-MOST-NAMES c =
-    let l = c.args.self.now in let xs = listed l.table l.count in let y = c.args.name.now in
-    let full = le-leb 64 (length xs) (omega (arith, length-listed l.table l.count l.rows l.few, c.if-at-ge-MOST-NAMES.true)) in
+pub invariant_of-self : goal.invariant_of-self
+invariant_of-self c =
+    let l = c.args.self.now in let n = c.of.result in let y = c.args.name.now in
     record {
-      answer = sym (new-answer y xs c.if-not-is-name.ensures c.in-default.ensures ∙ cond-true _ _ _ full);
-      names = sym (new-names y xs c.if-not-is-name.ensures c.in-default.ensures ∙ cond-true _ _ _ full);
+      rows = length-set l.table l.count n ∙ l.rows;
+      few = omega arith;
+      kept = grown-lawful l.table l.count l.rows l.few n y c.if-at-ge-MOST_NAMES.false c.if-not-is_name.ensures c.of.ensures l.kept c.in_default.ensures;
     }
 
-pub invariant-of-self : goal.invariant-of-self
-invariant-of-self c =
-    let l = c.args.self.now in let n = c.of.result in let y = c.args.name.now in (
-      length-set l.table l.count n ∙ l.rows,
-      (
-        omega arith,
-        (
-          grown-lawful l.table l.count l.rows l.few n y c.if-at-ge-MOST-NAMES.false c.if-not-is-name.ensures c.of.ensures l.kept c.in-default.ensures,
-          tt,
-        ),
-      ),
-    )
-
-pub returns : goal.returns
-returns c =
+pub returns-clause-names : goal.returns-clause-names
+returns-clause-names c =
     let l = c.args.self.now in let xs = listed l.table l.count in let y = c.args.name.now in
     let long = length-listed l.table l.count l.rows l.few in
-    let room = lt-leb 64 (length xs) (omega (arith, long, c.if-at-ge-MOST-NAMES.false)) in
-    record {
-      answer = ap Ok (sym long) ∙ sym (new-answer y xs c.if-not-is-name.ensures c.in-default.ensures ∙ cond-false _ _ _ room);
-      names = grown l.table l.count l.rows l.few c.of.result y c.if-at-ge-MOST-NAMES.false c.if-not-is-name.ensures c.of.ensures
-          ∙ sym (new-names y xs c.if-not-is-name.ensures c.in-default.ensures ∙ cond-false _ _ _ room);
-    }
+    let room = lt-leb 64 (length xs) (omega (arith, long, c.if-at-ge-MOST_NAMES.false)) in
+    grown l.table l.count l.rows l.few c.of.result y c.if-at-ge-MOST_NAMES.false c.if-not-is_name.ensures c.of.ensures
+    ∙ sym (new-names y xs c.if-not-is_name.ensures c.in_default.ensures ∙ cond-false _ _ _ room)

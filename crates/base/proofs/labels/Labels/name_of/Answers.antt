@@ -8,7 +8,7 @@ pub returns-then-i-self : goal.returns-then-i-self
 returns-then-i-self c =
     let l = c.args.self.now in let a = c.args.action in
     let n = length-listed l.table l.count l.rows l.few in
-    ap Some (c.as-bytes.ensures ∙ sym (listed_at l.table l.count l.rows l.few a c.index-self-i.result c.if-i-self.true))
+    ap Some (c.as_bytes.ensures ∙ sym (listed_at l.table l.count l.rows l.few a c.index-self-i.result c.if-i-self.true))
     ∙ sym (slice_get-get_or (listed l.table l.count) a [] (omega arith))
 
 pub returns-else-i-self : goal.returns-else-i-self

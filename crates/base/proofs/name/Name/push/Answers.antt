@@ -6,6 +6,6 @@ pub returns : goal.returns
 returns c =
     let n = c.args.self.now in
     record {
-      answer = sym (roomy n.bytes n.len n.room c.if-self-ge-LONGEST-NAME.false);
-      after = longer n.bytes n.len n.room c.args.byte c.if-self-ge-LONGEST-NAME.false;
+      answer = sym (roomy n.bytes n.len n.room c.if-self-ge-LONGEST_NAME.false);
+      after = longer n.bytes n.len n.room c.args.byte c.if-self-ge-LONGEST_NAME.false;
     }
