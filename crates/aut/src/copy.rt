@@ -16,7 +16,7 @@ pub fn copy_through_text<M: Model>(
     cells: &mut [Cell],
     slots: usize,
 ) -> Result<Header, Refusal>
-    ensures { Copied (meaning model.now) slots labels.old labels.new text.old text.new cells.old cells.new result }
+    ensures { Copied (M.meaning model.now) slots labels.old labels.new text.old text.new cells.old cells.new result }
 {
     let length = write(model, labels, text)?;
     read(&text[0..length], labels, cells, slots)

@@ -31,7 +31,7 @@ fn named(name: Name, labels: &Labels) -> ActionSet
 }
 
 // An action formula: a chain of OR.
-#[cycle(all_more_all_of_any_more_any_of_grouped_negated_tight)]
+#[cycle(braces)]
 pub(crate) fn any_of(tokens: &[Token], at: usize, labels: &Labels) -> Option<Chosen>
     ensures { Chooses (listed labels.now.table labels.now.count) tokens.now at OrLevel result }
 {
@@ -40,7 +40,7 @@ pub(crate) fn any_of(tokens: &[Token], at: usize, labels: &Labels) -> Option<Cho
 }
 
 // What goes on after the beginning of such a chain.
-#[cycle(all_more_all_of_any_more_any_of_grouped_negated_tight)]
+#[cycle(braces)]
 fn any_more(left: Chosen, tokens: &[Token], labels: &Labels) -> Option<Chosen>
     ensures { (c : Acts) → IsSet (listed labels.now.table labels.now.count) c left.actions → Chooses (listed labels.now.table labels.now.count) tokens.now left.end (OrMore c) result }
 {
@@ -56,7 +56,7 @@ fn any_more(left: Chosen, tokens: &[Token], labels: &Labels) -> Option<Chosen>
 }
 
 // A chain of AND.
-#[cycle(all_more_all_of_any_more_any_of_grouped_negated_tight)]
+#[cycle(braces)]
 fn all_of(tokens: &[Token], at: usize, labels: &Labels) -> Option<Chosen>
     ensures { Chooses (listed labels.now.table labels.now.count) tokens.now at AndLevel result }
 {
@@ -65,7 +65,7 @@ fn all_of(tokens: &[Token], at: usize, labels: &Labels) -> Option<Chosen>
 }
 
 // What goes on after the beginning of such a chain.
-#[cycle(all_more_all_of_any_more_any_of_grouped_negated_tight)]
+#[cycle(braces)]
 fn all_more(left: Chosen, tokens: &[Token], labels: &Labels) -> Option<Chosen>
     ensures { (c : Acts) → IsSet (listed labels.now.table labels.now.count) c left.actions → Chooses (listed labels.now.table labels.now.count) tokens.now left.end (AndMore c) result }
 {
@@ -81,7 +81,7 @@ fn all_more(left: Chosen, tokens: &[Token], labels: &Labels) -> Option<Chosen>
 }
 
 // A tight action formula.
-#[cycle(all_more_all_of_any_more_any_of_grouped_negated_tight)]
+#[cycle(braces)]
 fn tight(tokens: &[Token], at: usize, labels: &Labels) -> Option<Chosen>
     ensures { Chooses (listed labels.now.table labels.now.count) tokens.now at Tight result }
 {
@@ -115,7 +115,7 @@ fn tight(tokens: &[Token], at: usize, labels: &Labels) -> Option<Chosen>
 }
 
 // What follows NOT.
-#[cycle(all_more_all_of_any_more_any_of_grouped_negated_tight)]
+#[cycle(braces)]
 fn negated(tokens: &[Token], at: usize, labels: &Labels) -> Option<Chosen>
     ensures { ChoosesBy (listed labels.now.table labels.now.count) tokens.now at 3 (λ n. then (read action_rules n Tight (unread tokens.now at)) (λ c rest. Some (complement c, rest))) result }
 {
@@ -127,7 +127,7 @@ fn negated(tokens: &[Token], at: usize, labels: &Labels) -> Option<Chosen>
 }
 
 // What follows a sign that opens parentheses.
-#[cycle(all_more_all_of_any_more_any_of_grouped_negated_tight)]
+#[cycle(braces)]
 fn grouped(sign: Sign, tokens: &[Token], at: usize, labels: &Labels) -> Option<Chosen>
     ensures { ChoosesBy (listed labels.now.table labels.now.count) tokens.now at 3 (λ n. in_group sign (read action_rules n OrLevel (unread tokens.now at))) result }
 {

@@ -19,7 +19,7 @@ use base::action_set::ActionSet;
 use base::labels::Labels;
 
 // A formula: a chain of OR.
-#[cycle(all_more_all_of_any_more_any_of_body_both_parts_bracketed_formula_at_grouped_negated_one_part_other_part_part_at_past_braces_tight)]
+#[cycle(formulas)]
 pub(crate) fn any_of(
     tokens: &[Token],
     at: usize,
@@ -33,7 +33,7 @@ pub(crate) fn any_of(
 }
 
 // What goes on after the beginning of such a chain.
-#[cycle(all_more_all_of_any_more_any_of_body_both_parts_bracketed_formula_at_grouped_negated_one_part_other_part_part_at_past_braces_tight)]
+#[cycle(formulas)]
 fn any_more(left: Built, tokens: &[Token], labels: &Labels, draft: &mut Draft) -> Option<Built>
     ensures { (t : Tree) (before : DraftState) → Laid (listed labels.now.table labels.now.count) before (drafted draft.old) t left → Builds (listed labels.now.table labels.now.count) tokens.now left.end before (drafted draft.new) (OrMore t) result }
 {
@@ -50,7 +50,7 @@ fn any_more(left: Built, tokens: &[Token], labels: &Labels, draft: &mut Draft) -
 }
 
 // A chain of AND.
-#[cycle(all_more_all_of_any_more_any_of_body_both_parts_bracketed_formula_at_grouped_negated_one_part_other_part_part_at_past_braces_tight)]
+#[cycle(formulas)]
 fn all_of(tokens: &[Token], at: usize, labels: &Labels, draft: &mut Draft) -> Option<Built>
     ensures { Builds (listed labels.now.table labels.now.count) tokens.now at (drafted draft.old) (drafted draft.new) AndLevel result }
 {
@@ -59,7 +59,7 @@ fn all_of(tokens: &[Token], at: usize, labels: &Labels, draft: &mut Draft) -> Op
 }
 
 // What goes on after the beginning of such a chain.
-#[cycle(all_more_all_of_any_more_any_of_body_both_parts_bracketed_formula_at_grouped_negated_one_part_other_part_part_at_past_braces_tight)]
+#[cycle(formulas)]
 fn all_more(left: Built, tokens: &[Token], labels: &Labels, draft: &mut Draft) -> Option<Built>
     ensures { (t : Tree) (before : DraftState) → Laid (listed labels.now.table labels.now.count) before (drafted draft.old) t left → Builds (listed labels.now.table labels.now.count) tokens.now left.end before (drafted draft.new) (AndMore t) result }
 {
@@ -76,7 +76,7 @@ fn all_more(left: Built, tokens: &[Token], labels: &Labels, draft: &mut Draft) -
 }
 
 // A tight formula.
-#[cycle(all_more_all_of_any_more_any_of_body_both_parts_bracketed_formula_at_grouped_negated_one_part_other_part_part_at_past_braces_tight)]
+#[cycle(formulas)]
 fn tight(tokens: &[Token], at: usize, labels: &Labels, draft: &mut Draft) -> Option<Built>
     ensures { Builds (listed labels.now.table labels.now.count) tokens.now at (drafted draft.old) (drafted draft.new) Tight result }
 {
@@ -102,7 +102,7 @@ fn tight(tokens: &[Token], at: usize, labels: &Labels, draft: &mut Draft) -> Opt
 }
 
 // What follows NOT.
-#[cycle(all_more_all_of_any_more_any_of_body_both_parts_bracketed_formula_at_grouped_negated_one_part_other_part_part_at_past_braces_tight)]
+#[cycle(formulas)]
 fn negated(tokens: &[Token], at: usize, labels: &Labels, draft: &mut Draft) -> Option<Built>
     ensures { BuildsBy (listed labels.now.table labels.now.count) tokens.now at (drafted draft.old) (drafted draft.new) 3 (λ n. then (read formula_rules n Tight (unread tokens.now at)) (λ t rest. Some (NOT t, rest))) result }
 {
@@ -114,7 +114,7 @@ fn negated(tokens: &[Token], at: usize, labels: &Labels, draft: &mut Draft) -> O
 }
 
 // What follows a sign that opens parentheses.
-#[cycle(all_more_all_of_any_more_any_of_body_both_parts_bracketed_formula_at_grouped_negated_one_part_other_part_part_at_past_braces_tight)]
+#[cycle(formulas)]
 fn grouped(
     sign: Sign,
     tokens: &[Token],
@@ -136,7 +136,7 @@ fn grouped(
 }
 
 // What follows a two-letter operator.
-#[cycle(all_more_all_of_any_more_any_of_body_both_parts_bracketed_formula_at_grouped_negated_one_part_other_part_part_at_past_braces_tight)]
+#[cycle(formulas)]
 fn one_part(
     operator: Operator,
     tokens: &[Token],
@@ -159,7 +159,7 @@ fn one_part(
 }
 
 // What follows E or A.
-#[cycle(all_more_all_of_any_more_any_of_body_both_parts_bracketed_formula_at_grouped_negated_one_part_other_part_part_at_past_braces_tight)]
+#[cycle(formulas)]
 fn bracketed(
     quantifier: Quantifier,
     tokens: &[Token],
@@ -174,7 +174,7 @@ fn bracketed(
 }
 
 // The two parts in brackets, with U or W between them.
-#[cycle(all_more_all_of_any_more_any_of_body_both_parts_bracketed_formula_at_grouped_negated_one_part_other_part_part_at_past_braces_tight)]
+#[cycle(formulas)]
 fn both_parts(
     quantifier: Quantifier,
     tokens: &[Token],
@@ -190,7 +190,7 @@ fn both_parts(
 }
 
 // The second part, after U or W, and the end of the brackets.
-#[cycle(all_more_all_of_any_more_any_of_body_both_parts_bracketed_formula_at_grouped_negated_one_part_other_part_part_at_past_braces_tight)]
+#[cycle(formulas)]
 fn other_part(
     quantifier: Quantifier,
     first: BuiltPart,
@@ -219,7 +219,7 @@ fn other_part(
 }
 
 // A part: braces, a formula, or both.
-#[cycle(all_more_all_of_any_more_any_of_body_both_parts_bracketed_formula_at_grouped_negated_one_part_other_part_part_at_past_braces_tight)]
+#[cycle(formulas)]
 fn part_at(
     extent: Extent,
     tokens: &[Token],
@@ -237,7 +237,7 @@ fn part_at(
 }
 
 // After braces: a formula whenever one can begin, else TRUE.
-#[cycle(all_more_all_of_any_more_any_of_body_both_parts_bracketed_formula_at_grouped_negated_one_part_other_part_part_at_past_braces_tight)]
+#[cycle(formulas)]
 fn past_braces(
     braces: Chosen,
     extent: Extent,
@@ -258,7 +258,7 @@ fn past_braces(
 }
 
 // The formula of a part.
-#[cycle(all_more_all_of_any_more_any_of_body_both_parts_bracketed_formula_at_grouped_negated_one_part_other_part_part_at_past_braces_tight)]
+#[cycle(formulas)]
 fn body(
     actions: ActionSet,
     extent: Extent,
@@ -278,7 +278,7 @@ fn body(
 }
 
 // A formula that reaches so far.
-#[cycle(all_more_all_of_any_more_any_of_body_both_parts_bracketed_formula_at_grouped_negated_one_part_other_part_part_at_past_braces_tight)]
+#[cycle(formulas)]
 fn formula_at(
     extent: Extent,
     tokens: &[Token],

@@ -9,13 +9,13 @@ pub loop-i-preserved : goal.loop-i-preserved
 loop-i-preserved c =
     let l = c.args.labels.now in let names = listed l.table l.count in
     every.passes (λ ts. all_listed names (map tok ts)) (λ x. is_listed names (tok x)) (λ _ _. refl) c.args.tokens.now c.loop-i.i c.index-tokens-i.result c.loop-i-test.true
-    (c.if-not-is-listed.ensures ∙ ap (λ x. is_listed names (tok x)) c.index-tokens-i.is) c.loop-i.invariant
+    (c.if-not-is_listed.ensures ∙ ap (λ x. is_listed names (tok x)) c.index-tokens-i.is) c.loop-i.invariant
 
-pub returns-then-not-is-listed : goal.returns-then-not-is-listed
-returns-then-not-is-listed c =
+pub returns-then-not-is_listed : goal.returns-then-not-is_listed
+returns-then-not-is_listed c =
     let l = c.args.labels.now in let names = listed l.table l.count in
     every.fails (λ ts. all_listed names (map tok ts)) (λ x. is_listed names (tok x)) (λ _ _. refl) c.args.tokens.now c.loop-i.i c.index-tokens-i.result c.loop-i-test.true
-    (c.if-not-is-listed.ensures ∙ ap (λ x. is_listed names (tok x)) c.index-tokens-i.is) c.loop-i.invariant
+    (c.if-not-is_listed.ensures ∙ ap (λ x. is_listed names (tok x)) c.index-tokens-i.is) c.loop-i.invariant
 
 pub returns : goal.returns
 returns c =

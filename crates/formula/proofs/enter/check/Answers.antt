@@ -14,6 +14,6 @@ returns-in-Some c =
     let right : fits c.args.text.now ≡ true = grind (arith, nat_tests) in
     let e : c.in-Some.count - 0 ≡ c.in-Some.count = omega arith in
     let lexed : tokens_of c.args.text.now ≡ Some (map tok (take (c.in-Some.count - 0) c.lex.new.tokens)) = c.in-Some.ensures.0 ∙ ap (λ k. Some (map tok (take k room))) (sym e) in
-    MatchResult-weaker c.check-tokens.result c.check-tokens.ensures
+    MatchResult-weaker c.check_tokens.result c.check_tokens.ensures
     (λ x k. record { right_size = right; tokens = map tok (take (c.in-Some.count - 0) room); lexed = lexed; checked = k })
     (λ x k. record { why = cond-true _ _ _ right ∙ ap (verdict_at (listed l.table l.count) (length (shapes n.table n.count))) lexed ∙ k })

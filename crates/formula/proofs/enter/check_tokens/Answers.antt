@@ -14,7 +14,7 @@ returns-then-draft c =
     let ts = map tok c.args.tokens.now in let w = c.in-Some.ensures in let d = c.whole.new.draft in
     let few : length (shapes c.args.nodes.now.table c.args.nodes.now.count) ≤ 48 = omega (arith, length-shapes n.table n.count n.rows n.few, n.few) in
     ap (verdict_on names (length xs) ts) w.1
-    ∙ over names ts w.0 xs few c.if-not-all-listed.ensures
+    ∙ over names ts w.0 xs few c.if-not-all_listed.ensures
     (sym (w.2 ∙ ap (lay names w.0) c.over-draft.ensures) ∙ cond-true {A = DraftState} d.full None (Some (shapes d.nodes.table d.nodes.count)) c.if-draft.true)
 
 pub returns : goal.returns
@@ -23,6 +23,6 @@ returns c =
     let ts = map tok c.args.tokens.now in let w = c.in-Some.ensures in let d = c.whole.new.draft in
     let few : length (shapes c.args.nodes.now.table c.args.nodes.now.count) ≤ 48 = omega (arith, length-shapes n.table n.count n.rows n.few, n.few) in
     let is = cond-false {A = DraftState} d.full None (Some (shapes d.nodes.table d.nodes.count)) c.if-draft.false in
-    let k = within names ts w.0 xs few c.if-not-all-listed.ensures (shapes d.nodes.table d.nodes.count) c.in-Some.root
+    let k = within names ts w.0 xs few c.if-not-all_listed.ensures (shapes d.nodes.table d.nodes.count) c.in-Some.root
     (sym (w.2 ∙ ap (lay names w.0) c.over-draft.ensures) ∙ is) (w.3 ∙ ap top is) in
     record { tree = w.0; is = w.1; answer = k.0; written = k.1 }

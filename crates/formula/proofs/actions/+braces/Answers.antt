@@ -9,82 +9,82 @@ use Rattle.formula.specs.Trees.{all, none, silent, named, complement, intersecti
 use Rattle.formula.proofs.Choices as choices
 use Rattle.formula.proofs.Findings.{grouped-by}
 use Rattle.formula.proofs.Stages.{or_none, and_none, or_stop, or_more-none, and_stop, and-more-none, tight-by}
-use Rattle.formula.proofs.actions.+all_more_all_of_any_more_any_of_grouped_negated_tight.Goals as goal
+use Rattle.formula.proofs.actions.+braces.Goals as goal
 
-pub all-more-returns-in-default : goal.all-more-returns-in-default
-all-more-returns-in-default t c = λ k h. (k, and_stop action_rules k _ c.in-default.ensures, h, omega arith)
+pub all_more-returns-in_default : goal.all_more-returns-in_default
+all_more-returns-in_default t c = λ k h. (k, and_stop action_rules k _ c.in_default.ensures, h, omega arith)
 
-pub all-more-returns-in-err-right : goal.all-more-returns-in-err-right
-all-more-returns-in-err-right t c = λ k h.
+pub all_more-returns-in_err-right : goal.all_more-returns-in_err-right
+all_more-returns-in_err-right t c = λ k h.
     let s = c.args.tokens.now in let l = c.args.labels.now in
-    choices.none-at (listed l.table l.count) s c.args.left.end 1 _ c.from-residual.result c.from-residual.ensures
-    (and-more-none action_rules k (unread s c.args.left.end) (unread s c.in-Some.next) c.in-Some.ensures.0 c.in-err-right.ensures)
+    choices.none-at (listed l.table l.count) s c.args.left.end 1 _ c.from_residual.result c.from_residual.ensures
+    (and-more-none action_rules k (unread s c.args.left.end) (unread s c.in-Some.next) c.in-Some.ensures.0 c.in_err-right.ensures)
 
-pub all-more-returns : goal.all-more-returns
-all-more-returns t c = λ k h.
-    let s = c.args.tokens.now in let l = c.args.labels.now in let names = listed l.table l.count in let y = c.in-ok-right.right in
-    let d = c.in-ok-right.ensures in
-    choices.and-next names s k c.args.left.end c.in-Some.next y c.all-more.result c.in-Some.ensures.0 c.in-Some.ensures.1 d
-    (c.all-more.ensures (intersection k d.0) (choices.common names s k d.0 c.args.left.actions y.actions c.intersection.result h d.2 c.intersection.ensures))
+pub all_more-returns : goal.all_more-returns
+all_more-returns t c = λ k h.
+    let s = c.args.tokens.now in let l = c.args.labels.now in let names = listed l.table l.count in let y = c.in_ok-right.right in
+    let d = c.in_ok-right.ensures in
+    choices.and-next names s k c.args.left.end c.in-Some.next y c.all_more.result c.in-Some.ensures.0 c.in-Some.ensures.1 d
+    (c.all_more.ensures (intersection k d.0) (choices.common names s k d.0 c.args.left.actions y.actions c.intersection.result h d.2 c.intersection.ensures))
 
-pub all-of-returns-in-err-first : goal.all-of-returns-in-err-first
-all-of-returns-in-err-first t c =
+pub all_of-returns-in_err-first : goal.all_of-returns-in_err-first
+all_of-returns-in_err-first t c =
     let s = c.args.tokens.now in let l = c.args.labels.now in
-    choices.none-at (listed l.table l.count) s c.args.at 2 _ c.from-residual.result c.from-residual.ensures
-    (and_none action_rules (unread s c.args.at) c.in-err-first.ensures)
+    choices.none-at (listed l.table l.count) s c.args.at 2 _ c.from_residual.result c.from_residual.ensures
+    (and_none action_rules (unread s c.args.at) c.in_err-first.ensures)
 
-pub all-of-returns : goal.all-of-returns
-all-of-returns t c =
-    let s = c.args.tokens.now in let l = c.args.labels.now in let d = c.in-ok-first.ensures in
-    choices.and_first (listed l.table l.count) s c.in-ok-first.first c.args.at c.all-more.result d (c.all-more.ensures d.0 d.2)
+pub all_of-returns : goal.all_of-returns
+all_of-returns t c =
+    let s = c.args.tokens.now in let l = c.args.labels.now in let d = c.in_ok-first.ensures in
+    choices.and_first (listed l.table l.count) s c.in_ok-first.first c.args.at c.all_more.result d (c.all_more.ensures d.0 d.2)
 
-pub any-more-returns-in-default : goal.any-more-returns-in-default
-any-more-returns-in-default t c = λ k h. (k, or_stop action_rules k _ c.in-default.ensures, h, omega arith)
+pub any_more-returns-in_default : goal.any_more-returns-in_default
+any_more-returns-in_default t c = λ k h. (k, or_stop action_rules k _ c.in_default.ensures, h, omega arith)
 
-pub any-more-returns-in-err-right : goal.any-more-returns-in-err-right
-any-more-returns-in-err-right t c = λ k h.
+pub any_more-returns-in_err-right : goal.any_more-returns-in_err-right
+any_more-returns-in_err-right t c = λ k h.
     let s = c.args.tokens.now in let l = c.args.labels.now in
-    choices.none-at (listed l.table l.count) s c.args.left.end 1 _ c.from-residual.result c.from-residual.ensures
-    (or_more-none action_rules k (unread s c.args.left.end) (unread s c.in-Some.next) c.in-Some.ensures.0 c.in-err-right.ensures)
+    choices.none-at (listed l.table l.count) s c.args.left.end 1 _ c.from_residual.result c.from_residual.ensures
+    (or_more-none action_rules k (unread s c.args.left.end) (unread s c.in-Some.next) c.in-Some.ensures.0 c.in_err-right.ensures)
 
-pub any-more-returns : goal.any-more-returns
-any-more-returns t c = λ k h.
-    let s = c.args.tokens.now in let l = c.args.labels.now in let names = listed l.table l.count in let y = c.in-ok-right.right in
-    let d = c.in-ok-right.ensures in
-    choices.or_next names s k c.args.left.end c.in-Some.next y c.any-more.result c.in-Some.ensures.0 c.in-Some.ensures.1 d
-    (c.any-more.ensures (union k d.0) (choices.united names s k d.0 c.args.left.actions y.actions c.union.result h d.2 c.union.ensures))
+pub any_more-returns : goal.any_more-returns
+any_more-returns t c = λ k h.
+    let s = c.args.tokens.now in let l = c.args.labels.now in let names = listed l.table l.count in let y = c.in_ok-right.right in
+    let d = c.in_ok-right.ensures in
+    choices.or_next names s k c.args.left.end c.in-Some.next y c.any_more.result c.in-Some.ensures.0 c.in-Some.ensures.1 d
+    (c.any_more.ensures (union k d.0) (choices.united names s k d.0 c.args.left.actions y.actions c.union.result h d.2 c.union.ensures))
 
-pub any-of-returns-in-err-first : goal.any-of-returns-in-err-first
-any-of-returns-in-err-first t c =
+pub any_of-returns-in_err-first : goal.any_of-returns-in_err-first
+any_of-returns-in_err-first t c =
     let s = c.args.tokens.now in let l = c.args.labels.now in
-    choices.none-at (listed l.table l.count) s c.args.at 3 _ c.from-residual.result c.from-residual.ensures
-    (or_none action_rules (unread s c.args.at) c.in-err-first.ensures)
+    choices.none-at (listed l.table l.count) s c.args.at 3 _ c.from_residual.result c.from_residual.ensures
+    (or_none action_rules (unread s c.args.at) c.in_err-first.ensures)
 
-pub any-of-returns : goal.any-of-returns
-any-of-returns t c =
-    let s = c.args.tokens.now in let l = c.args.labels.now in let d = c.in-ok-first.ensures in
-    choices.or_first (listed l.table l.count) s c.in-ok-first.first c.args.at c.any-more.result d (c.any-more.ensures d.0 d.2)
+pub any_of-returns : goal.any_of-returns
+any_of-returns t c =
+    let s = c.args.tokens.now in let l = c.args.labels.now in let d = c.in_ok-first.ensures in
+    choices.or_first (listed l.table l.count) s c.in_ok-first.first c.args.at c.any_more.result d (c.any_more.ensures d.0 d.2)
 
 pub grouped-returns : goal.grouped-returns
 grouped-returns t c =
-    let s = c.args.tokens.now in let d = c.in-ok-inner.ensures in let e = c.in-ok-end.ensures in (
+    let s = c.args.tokens.now in let d = c.in_ok-inner.ensures in let e = c.in_ok-end.ensures in (
       d.0,
-      grouped-by action_rules s c.args.sign d.0 c.args.at c.in-ok-inner.inner.end c.in-ok-end.end c.if-not-is-open.ensures d.1 e.0,
+      grouped-by action_rules s c.args.sign d.0 c.args.at c.in_ok-inner.inner.end c.in_ok-end.end c.if-not-is_open.ensures d.1 e.0,
       d.2,
       omega (arith, d.3, e.1),
     )
 
 pub negated-returns : goal.negated-returns
 negated-returns t c =
-    let l = c.args.labels.now in let d = c.in-ok-inner.ensures in let y = c.in-ok-inner.inner in (
+    let l = c.args.labels.now in let d = c.in_ok-inner.ensures in let y = c.in_ok-inner.inner in (
       complement d.0,
       λ n h. ap (λ g. then g (λ x rest. Some (complement x, rest))) (d.1 n (omega arith)),
       choices.other (listed l.table l.count) c.args.tokens.now d.0 y.actions c.complement.result d.2 c.complement.ensures,
       d.3,
     )
 
-pub tight-returns-in-default : goal.tight-returns-in-default
-tight-returns-in-default t c = tight-by action_rules (unread c.args.tokens.now c.args.at) None (λ n h. ap (action_rules.tightly (read action_rules n)) c.in-default.ensures)
+pub tight-returns-in_default : goal.tight-returns-in_default
+tight-returns-in_default t c = tight-by action_rules (unread c.args.tokens.now c.args.at) None (λ n h. ap (action_rules.tightly (read action_rules n)) c.in_default.ensures)
 
 pub tight-returns-in-Name : goal.tight-returns-in-Name
 tight-returns-in-Name t c =
