@@ -4,3 +4,4 @@ pub mod Writing
 pub mod Sweeping
 pub mod Operators
 pub mod Rightly
+mod Tables

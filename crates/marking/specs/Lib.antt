@@ -1,3 +1,4 @@
+pub mod Meant
 pub mod Steps
 pub mod Gates
 pub mod Sweeps

@@ -2,6 +2,7 @@
 #![tactic(auto)]
 
 pub mod count;
+pub mod decoded;
 mod direction;
 mod gate;
 mod gates;

@@ -14,13 +14,13 @@ told input o None is made e b = λ n k. none_some (e ∙ is n k)
     none_some z = let y : ◌≡◌ {A = ℕ} 0 1 = cc in omega arith
 told input o (Some n) is made e b = (made n (sym e), (λ m k. same (sym (is m k) ∙ sym e)), b)
 
-pub returns-in-default : goal.returns-in-default
-returns-in-default c = no_front c.args.input.now c.in-default.ensures
+pub returns-in_default : goal.returns-in_default
+returns-in_default c = no_front c.args.input.now c.in_default.ensures
 
 pub returns : goal.returns
 returns c =
     let first = c.in-Some.ensures in
-    told c.args.input.now _ c.skip-lines.result
+    told c.args.input.now _ c.skip_lines.result
     (front-is c.args.input.now c.in-Some.first.1 (view c.in-Some.first.0) first.2 first.0)
     (front_made c.args.input.now c.in-Some.first.1 (view c.in-Some.first.0) first.2 first.0)
-    c.skip-lines.ensures.place c.skip-lines.ensures.bound
+    c.skip_lines.ensures.place c.skip_lines.ensures.bound

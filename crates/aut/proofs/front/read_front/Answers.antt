@@ -12,21 +12,21 @@ placed h h' j n e = let p : ◌≡◌ {A = Header × ℕ} (h, n) (h', j) = cc in
 not_placed : (h : Header) (j n : ℕ) (x : Refusal) → ◌≡◌ {A = Result (Header × ℕ) Refusal} (Err x) (Ok (h, j)) → j ≡ n
 not_placed h j n x e = let z : ◌≡◌ {A = ℕ} 0 1 = cc in absurd (omega arith)
 
-pub returns-in-default : goal.returns-in-default
-returns-in-default c =
+pub returns-in_default : goal.returns-in_default
+returns-in_default c =
     none_read c.args.input.now c.args.longest c.args.most c.args.slots c.args.labels.now c.args.cells.now
-    (le-ltb c.args.longest (length c.args.input.now) c.if-input-longest.false) c.in-default.ensures
+    (le-ltb c.args.longest (length c.args.input.now) c.if-input-longest.false) c.in_default.ensures
 
-pub returns-in-err-header : goal.returns-in-err-header
-returns-in-err-header c =
-    let p = err_from_is_err_and c.from-residual.result c.from-residual.ensures.1 in
+pub returns-in_err-header : goal.returns-in_err-header
+returns-in_err-header c =
+    let p = err_from_is_err_and c.from_residual.result c.from_residual.ensures.1 in
     let e : c.in-Some.n - 0 ≡ c.in-Some.n = omega arith in
     let f = c.in-Some.ensures in
     rw (p.1, p.2)
     (front_read c.args.input.now c.args.longest c.args.most c.args.slots c.args.labels.now c.args.cells.now
     (le-ltb c.args.longest (length c.args.input.now) c.if-input-longest.false)
-    c.in-Some.n (c.in-Some.n - 0) c.read-within.new.labels c.read-within.new.cells (Err c.in-err-header.field-0.0) e f.0 f.1 c.in-err-header.ensures
-    (λ h j s. not_placed h j c.in-Some.n c.in-err-header.field-0.0 s))
+    c.in-Some.n (c.in-Some.n - 0) c.read_within.new.labels c.read_within.new.cells (Err c.in_err-header.field-0.0) e f.0 f.1 c.in_err-header.ensures
+    (λ h j s. not_placed h j c.in-Some.n c.in_err-header.field-0.0 s))
 
 pub returns : goal.returns
 returns c =
@@ -34,5 +34,5 @@ returns c =
     let f = c.in-Some.ensures in
     front_read c.args.input.now c.args.longest c.args.most c.args.slots c.args.labels.now c.args.cells.now
     (le-ltb c.args.longest (length c.args.input.now) c.if-input-longest.false)
-    c.in-Some.n (c.in-Some.n - 0) c.read-within.new.labels c.read-within.new.cells (Ok (c.in-ok-header.header, c.in-Some.n)) e f.0 f.1 c.in-ok-header.ensures
-    (λ h j s. placed c.in-ok-header.header h j c.in-Some.n s)
+    c.in-Some.n (c.in-Some.n - 0) c.read_within.new.labels c.read_within.new.cells (Ok (c.in_ok-header.header, c.in-Some.n)) e f.0 f.1 c.in_ok-header.ensures
+    (λ h j s. placed c.in_ok-header.header h j c.in-Some.n s)

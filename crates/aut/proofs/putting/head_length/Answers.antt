@@ -4,7 +4,7 @@ use Rattle.aut.proofs.putting.head_length.Goals as goal
 
 pub returns : goal.returns
 returns c =
-    let i = c.number-length.ensures in let m = c.number-length-2.ensures in let n = c.number-length-3.ensures in
+    let i = c.number_length.ensures in let m = c.number_length-2.ensures in let n = c.number_length-3.ensures in
     record {
       long = omega (arith, i.long, m.long, n.long, head-long c.args.start c.args.count c.args.states);
       few = omega (arith, i.few, m.few, n.few);

@@ -4,7 +4,7 @@ use Rattle.aut.proofs.putting.line_length.Goals as goal
 
 pub returns : goal.returns
 returns c =
-    let n = c.number-length.ensures in let m = c.number-length-2.ensures in
+    let n = c.number_length.ensures in let m = c.number_length-2.ensures in
     record {
       long = omega (arith, n.long, m.long, line-long c.args.from c.args.name.now c.args.to);
       few = omega (arith, n.few, m.few, c.requires.1.1);

@@ -3,29 +3,29 @@ use Rattle.aut.specs.Writing.{unit_digit, five_digits}
 use Rattle.aut.proofs.Puts.{put_one, put-put, put_same, decimal_five, length_five}
 use Rattle.aut.proofs.putting.put_number.Goals as goal
 
-pub put-digit-at-requires : goal.put-digit-at-requires
-put-digit-at-requires c = (omega arith, omega (arith, c.requires.1, length_five c.args.number c.requires.0))
+pub put_digit-at-requires : goal.put_digit-at-requires
+put_digit-at-requires c = (omega arith, omega (arith, c.requires.1, length_five c.args.number c.requires.0))
 
-pub put-digit-at-requires-2 : goal.put-digit-at-requires-2
-put-digit-at-requires-2 c = (omega arith, omega (arith, c.requires.1, length_five c.args.number c.requires.0, c.put-digit-at.ensures.place, c.put-digit-at.auto.text))
+pub put_digit-at-requires-2 : goal.put_digit-at-requires-2
+put_digit-at-requires-2 c = (omega arith, omega (arith, c.requires.1, length_five c.args.number c.requires.0, c.put_digit-at.ensures.place, c.put_digit-at.auto.text))
 
-pub put-digit-at-requires-3 : goal.put-digit-at-requires-3
-put-digit-at-requires-3 c =
-    (omega arith, omega (arith, c.requires.1, length_five c.args.number c.requires.0, c.put-digit-at.ensures.place, c.put-digit-at.auto.text, c.put-digit-at-2.ensures.place, c.put-digit-at-2.auto.text))
+pub put_digit-at-requires-3 : goal.put_digit-at-requires-3
+put_digit-at-requires-3 c =
+    (omega arith, omega (arith, c.requires.1, length_five c.args.number c.requires.0, c.put_digit-at.ensures.place, c.put_digit-at.auto.text, c.put_digit-at-2.ensures.place, c.put_digit-at-2.auto.text))
 
-pub put-digit-at-requires-4 : goal.put-digit-at-requires-4
-put-digit-at-requires-4 c = (
+pub put_digit-at-requires-4 : goal.put_digit-at-requires-4
+put_digit-at-requires-4 c = (
   omega arith,
   omega (
     arith,
     c.requires.1,
     length_five c.args.number c.requires.0,
-    c.put-digit-at.ensures.place,
-    c.put-digit-at.auto.text,
-    c.put-digit-at-2.ensures.place,
-    c.put-digit-at-2.auto.text,
-    c.put-digit-at-3.ensures.place,
-    c.put-digit-at-3.auto.text,
+    c.put_digit-at.ensures.place,
+    c.put_digit-at.auto.text,
+    c.put_digit-at-2.ensures.place,
+    c.put_digit-at-2.auto.text,
+    c.put_digit-at-3.ensures.place,
+    c.put_digit-at-3.auto.text,
   ),
 )
 
@@ -35,20 +35,20 @@ bounds-text-at c =
       arith,
       c.requires.1,
       length_five c.args.number c.requires.0,
-      c.put-digit-at.ensures.place,
-      c.put-digit-at.auto.text,
-      c.put-digit-at-2.ensures.place,
-      c.put-digit-at-2.auto.text,
-      c.put-digit-at-3.ensures.place,
-      c.put-digit-at-3.auto.text,
-      c.put-digit-at-4.ensures.place,
-      c.put-digit-at-4.auto.text,
+      c.put_digit-at.ensures.place,
+      c.put_digit-at.auto.text,
+      c.put_digit-at-2.ensures.place,
+      c.put_digit-at-2.auto.text,
+      c.put_digit-at-3.ensures.place,
+      c.put_digit-at-3.auto.text,
+      c.put_digit-at-4.ensures.place,
+      c.put_digit-at-4.auto.text,
     )
 
 pub returns : goal.returns
 returns c =
-    let n = c.args.number in let p1 = c.put-digit-at in let p2 = c.put-digit-at-2 in let p3 = c.put-digit-at-3 in let p4 = c.put-digit-at-4 in
-    let inside : c.put-digit-at-4.result < length c.put-digit-at-4.new.text =
+    let n = c.args.number in let p1 = c.put_digit-at in let p2 = c.put_digit-at-2 in let p3 = c.put_digit-at-3 in let p4 = c.put_digit-at-4 in
+    let inside : c.put_digit-at-4.result < length c.put_digit-at-4.new.text =
     omega (arith, c.requires.1, length_five c.args.number c.requires.0, p1.ensures.place, p1.auto.text, p2.ensures.place, p2.auto.text, p3.ensures.place, p3.auto.text, p4.ensures.place, p4.auto.text) in
     put_same c.args.text.now _ c.args.at (p4.result + 1) (five_digits n) (decimal n) (sym (decimal_five n c.requires.0))
     (put-put c.args.text.now p1.new.text _ c.args.at p1.result (p4.result + 1) (unit_digit 10000 n) (unit_digit 1000 n ++ (unit_digit 100 n ++ (unit_digit 10 n ++ ((48 + n % 10) ∷ [])))) p1.ensures

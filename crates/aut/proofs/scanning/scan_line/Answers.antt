@@ -22,7 +22,7 @@ returns-in-Bad c =
 pub loop-i-preserved : goal.loop-i-preserved
 loop-i-preserved c =
     let t = c.args.text.now in let i = c.loop-i.i in
-    sym (goes_on t i (view c.loop-i.scan) (view c.step.new.self) c.loop-i-test.true c.step.ensures c.in-default.not-Open c.in-default.not-Bad)
+    sym (goes_on t i (view c.loop-i.scan) (view c.step.new.self) c.loop-i-test.true c.step.ensures c.in_default.not-Open c.in_default.not-Bad)
     ∙ c.loop-i.invariant
 
 pub returns : goal.returns

@@ -4,8 +4,8 @@ use Rattle.aut.specs.Writing.{moves_of, moves_below, all_tallied, no_tally}
 use Rattle.aut.proofs.Moves.{moves_below-more, few_below, text_below, tally_append, tally_count, tally_length}
 use Rattle.aut.proofs.tallying.tally_model.Goals as goal
 
-pub tally-state-requires : goal.tally-state-requires
-tally-state-requires g c =
+pub tally_state-requires : goal.tally_state-requires
+tally_state-requires g c =
     let M = g.M.Model.meaning c.args.model.now in let l = c.args.labels.now in let names = listed l.table l.count in
     let s = c.loop-s.s in let ms = moves_below M s in
     let below : c.loop-s.s < 65536 = omega (arith, c.loop-s-test.true, c.states-s-end.ensures, M.few_states) in
@@ -17,7 +17,7 @@ tally-state-requires g c =
 pub loop-s-preserved : goal.loop-s-preserved
 loop-s-preserved g c =
     let M = g.M.Model.meaning c.args.model.now in let l = c.args.labels.now in let names = listed l.table l.count in let s = c.loop-s.s in
-    c.tally-state.ensures ∙ ap (λ x. all_tallied names x (moves_of M s)) c.loop-s.invariant ∙ sym (tally_append names no_tally (moves_below M s) (moves_of M s))
+    c.tally_state.ensures ∙ ap (λ x. all_tallied names x (moves_of M s)) c.loop-s.invariant ∙ sym (tally_append names no_tally (moves_below M s) (moves_of M s))
     ∙ ap (all_tallied names no_tally) (sym (moves_below-more M s))
 
 pub returns : goal.returns

@@ -3,7 +3,7 @@ use Rattle.base.specs.Listing.{listed}
 use Rattle.aut.specs.Writing.{slot_moves, moves_at, all_tallied}
 use Rattle.aut.proofs.Moves.{moves_at-more, few-at, text_at, tally_append, tally_count, tally_length}
 use Rattle.aut.proofs.tallying.tally_state.Goals as goal
-use Rattle.aut.proofs.tallying.tally_state.Goals.{in-Some, in-default}
+use Rattle.aut.proofs.tallying.tally_state.Goals.{in-Some, in_default}
 
 pub note-requires : goal.note-requires
 note-requires g c =
@@ -26,8 +26,8 @@ loop-k-preserved g c =
     elim c.match-slot.branch [
       | in-Some w ↦ w.tally-is ∙ w.note.ensures ∙ ap (λ x. all_tallied names x (slot_moves s (Some (w.in-Some.action, w.in-Some.to)))) c.loop-k.invariant
           ∙ ap (λ o. all_tallied names (all_tallied names c.args.tally.now (moves_at M s k)) (slot_moves s o)) w.in-Some.ensures ∙ sym more
-      | in-default w ↦ w.tally-is ∙ c.loop-k.invariant
-          ∙ ap (λ o. all_tallied names (all_tallied names c.args.tally.now (moves_at M s k)) (slot_moves s o)) w.in-default.ensures ∙ sym more
+      | in_default w ↦ w.tally-is ∙ c.loop-k.invariant
+          ∙ ap (λ o. all_tallied names (all_tallied names c.args.tally.now (moves_at M s k)) (slot_moves s o)) w.in_default.ensures ∙ sym more
     ]
 
 pub returns : goal.returns

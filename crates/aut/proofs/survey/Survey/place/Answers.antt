@@ -30,10 +30,10 @@ returns-then-slots-used c = sym (cond-true _ _ _ (le-leb _ _ c.if-slots-used.tru
 
 pub returns-in-Err : goal.returns-in-Err
 returns-in-Err c =
-    refused c.args.slots (line_of c.args.line.now) (seen c.args.self.now) c.as-bytes.result.now (listed c.add.new.self.table c.add.new.self.count)
-    c.if-slots-used.false c.as-bytes.ensures c.add.ensures.names c.in-Err.field-0 c.in-Err.ensures.answer
+    refused c.args.slots (line_of c.args.line.now) (seen c.args.self.now) c.as_bytes.result.now (listed c.add.new.self.table c.add.new.self.count)
+    c.if-slots-used.false c.as_bytes.ensures c.add.ensures.names c.in-Err.field-0 c.in-Err.ensures.answer
 
 pub returns-in-Ok : goal.returns-in-Ok
 returns-in-Ok c =
-    added c.args.slots (line_of c.args.line.now) (seen c.args.self.now) c.as-bytes.result.now (listed c.add.new.self.table c.add.new.self.count)
-    c.if-slots-used.false c.as-bytes.ensures c.add.ensures.names c.in-Ok.field-0 c.in-Ok.ensures.answer
+    added c.args.slots (line_of c.args.line.now) (seen c.args.self.now) c.as_bytes.result.now (listed c.add.new.self.table c.add.new.self.count)
+    c.if-slots-used.false c.as_bytes.ensures c.add.ensures.names c.in-Ok.field-0 c.in-Ok.ensures.answer
