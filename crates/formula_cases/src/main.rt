@@ -2,6 +2,7 @@
 // for the byte with that hexadecimal number. The label list is tau, a, b, c and abcdefghijklmnop.
 #![tactic(auto)]
 
+use anyhow::anyhow;
 use base::action_set::ActionSet;
 use base::labels::Labels;
 use base::refusal::Refusal;
@@ -152,7 +153,7 @@ fn run(rt: &HostRuntime, text: &[u8], labels: &Labels) -> io::Result<()> {
 fn main(rt: HostRuntime) -> anyhow::Result<()> {
     let labels = match names() {
         Ok(labels) => labels,
-        Err(why) => return Err(why.word().into()),
+        Err(why) => return Err(anyhow!(why.word())),
     };
     for line in rt.lines(rt.alloc()) {
         let line = line?;

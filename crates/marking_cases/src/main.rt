@@ -2,6 +2,7 @@
 // formula holds. The last model is a grid with the transitions of the joined one before it.
 #![tactic(auto)]
 
+use anyhow::anyhow;
 use aut::copy::copy_through_text;
 use aut::reader::read;
 use base::action_set::ActionSet;
@@ -196,11 +197,11 @@ fn run(rt: &HostRuntime, models: &Models, nodes: &Nodes, texts: &Texts) -> io::R
 fn main(rt: HostRuntime) -> anyhow::Result<()> {
     let mut models = match make_models() {
         Ok(models) => models,
-        Err(why) => return Err(why.word().into()),
+        Err(why) => return Err(anyhow!(why.word())),
     };
     let texts = match read_texts(&mut models) {
         Ok(texts) => texts,
-        Err(why) => return Err(why.word().into()),
+        Err(why) => return Err(anyhow!(why.word())),
     };
     for line in rt.lines(rt.alloc()) {
         let line = line?;
