@@ -1,13 +1,12 @@
 -- The text of a model has the form, with the model's transitions.
-use Rattle.std.proofs.Common.{◌≡◌, ℕ, zero, suc, ◌+◌, ◌*◌, ◌^◌, ◌<◌, ◌≤◌, Bool, true, false, ◌&&◌, List, [], ◌∷◌, ◌++◌, map, length, get_or, is_some, decimal, sym, refl, ap, ◌∙◌, ⊎_elim, arith, rules}
+use Rattle.std.proofs.Common.{◌≡◌, ℕ, ◌^◌, ◌<◌, true, List, [], ◌∷◌, length, get_or, is_some, decimal, refl, ap, ◌∙◌, ⊎_elim, arith, rules}
 use Rattle.std.specs.List.{slice_get}
-use Rattle.std.proofs.lemmas.Str.Parse.{IsNumeralModel, IsDigitsTest, FoldsDigits, numerals_by_fold}
+use Rattle.std.proofs.lemmas.Str.Parse.{IsNumeralModel, numerals_by_fold}
 use Rattle.std.proofs.lemmas.Fmt.{decimal_nonempty, length-decimal-le, first_decimal, decimal_digit, digits_decimal, digits_value-decimal}
 use Rattle.std.proofs.lemmas.Bool.{cases_eq, cases_lt}
-use Rattle.base.specs.Names.{is_name}
 use Rattle.base.specs.Listing.{all_names}
-use Rattle.aut.specs.Form.{all_digits, worth, Numeral, Gap, nothing, LineOne, FurtherLine, Lines, none, more}
-use Rattle.aut.specs.Writing.{Move, name_at, move_text, moves_text, head_text, all_have_names}
+use Rattle.aut.specs.Form.{all_digits, worth, Numeral, nothing, LineOne, FurtherLine, Lines, none, more}
+use Rattle.aut.specs.Writing.{Move, move_text, moves_text, head_text}
 use Rattle.aut.specs.Back.{as_line, as_lines}
 use Rattle.aut.proofs.Spelled.{is_name-at}
 

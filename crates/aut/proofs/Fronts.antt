@@ -1,5 +1,5 @@
 -- A model at the front of an input: how long it is, and that it is so in one way only.
-use Rattle.std.proofs.Common.{◌≡◌, ℕ, zero, suc, ◌+◌, ◌-◌, ◌<◌, ◌≤◌, Bool, true, false, cond, eqb, ltb, List, [], ◌∷◌, ◌++◌, length, get_or, take, drop, Some, None, Ok, Err, Option, Result, sym, refl, ap, ◌∙◌, subst, add-zero, arith}
+use Rattle.std.proofs.Common.{◌≡◌, ℕ, suc, ◌+◌, ◌-◌, ◌<◌, ◌≤◌, false, cond, eqb, ltb, List, length, get_or, take, drop, Some, None, Ok, Err, Option, Result, sym, refl, ap, ◌∙◌, subst, add-zero, arith}
 use Rattle.std.specs.Option.{option_map}
 use Rattle.std.proofs.lemmas.List.{at_drop_more, at_drop_all, length-append, length-drop}
 use Rattle.std.proofs.lemmas.Bool.{both_ways, cond-true, cond-false, eq-eqb, ne_eqb}
@@ -9,7 +9,6 @@ use Rattle.base.specs.declared.labels.Labels.{Labels}
 use Rattle.model.specs.declared.cell.Cell.{Cell}
 use Rattle.aut.specs.declared.field.Field.TheVariants.{D}
 use Rattle.aut.specs.declared.header.Header.{Header}
-use Rattle.aut.specs.Form.{LineOne}
 use Rattle.aut.specs.Scanning.{State, begin, scan_on}
 use Rattle.aut.specs.Reading.{Read}
 use Rattle.aut.specs.Front.{lines_length, ModelFront, header_of, FrontRead}

@@ -1,5 +1,5 @@
 -- Bytes put into a text, one piece after another.
-use Rattle.std.proofs.Common.{◌≡◌, ℕ, suc, ◌+◌, ◌-◌, ◌*◌, ◌/◌, ◌%◌, ◌<◌, ◌≤◌, Bool, true, false, cond, leb, List, [], ◌∷◌, ◌++◌, length, take, drop, set, codes, decimal, sym, refl, ap, ◌∙◌, subst, ⊎_elim, zero-add, add-one, arith}
+use Rattle.std.proofs.Common.{◌≡◌, ℕ, ◌+◌, ◌-◌, ◌*◌, ◌/◌, ◌%◌, ◌<◌, ◌≤◌, List, [], ◌∷◌, ◌++◌, length, take, drop, set, codes, decimal, sym, refl, ap, ◌∙◌, subst, ⊎_elim, zero-add, add-one, arith}
 use borrow.Rule.Slice.PartMut.{put_mid}
 use Rattle.std.proofs.lemmas.List.{append_assoc, take-append-drop, take_at, drop_at, take_all, drop-drop, set_split, length-append, length-take-le, length-drop}
 use Rattle.std.proofs.lemmas.Slice.{put_mid-paste}

@@ -1,31 +1,27 @@
 -- A written text reads back as the same transitions.
-use Rattle.std.proofs.Common.{◌≡◌, ℕ, zero, suc, ◌+◌, ◌-◌, ◌*◌, ◌/◌, ◌%◌, ◌<◌, ◌≤◌, Bool, true, false, cond, not, ◌&&◌, ◌||◌, eqb, ltb, leb, List, [], ◌∷◌, ◌++◌, map, length, get_or, take, is_some, Some, None, Ok, Err, decimal, Option, Result, unwrap_or, sym, refl, ap, ◌∙◌, subst, ⊎_elim, div-add-mod', arith}
+use Rattle.std.proofs.Common.{◌≡◌, ℕ, zero, suc, ◌+◌, ◌*◌, ◌/◌, ◌%◌, ◌<◌, ◌≤◌, Bool, true, false, cond, not, ltb, List, [], ◌∷◌, ◌++◌, length, get_or, take, is_some, Some, None, Ok, Err, unwrap_or, sym, refl, ap, ◌∙◌, ⊎_elim, div-add-mod', arith}
 use Rattle.std.specs.Option.{option_map}
 use Rattle.std.specs.List.{slice_get}
-use Rattle.std.proofs.lemmas.List.{append-nil, length-append, length-map, map-append}
-use Rattle.std.proofs.lemmas.Bool.{and_parts, and_from, or_from, cond-true, cond-false, cases_lt, cases_eq, eq-eqb, ne_eqb, lt-ltb, le-ltb, le-leb, not_from_false, not_from_true, both_ways, ltb-false, not-false, cond_both, cases_Bool, ltb-true}
+use Rattle.std.proofs.lemmas.List.{append-nil, length-map, map-append}
+use Rattle.std.proofs.lemmas.Bool.{and_parts, and_from, or_from, cond-true, cond-false, cases_lt, cases_eq, eq-eqb, ne_eqb, lt-ltb, le-ltb, le-leb, not_from_false, not_from_true, ltb-false}
 use Rattle.std.proofs.lemmas.Nat.{div_below, mod_below}
 use Rattle.std.proofs.lemmas.Fmt.{length-decimal-le}
-use Rattle.base.specs.declared.refusal.Refusal.{Refusal}
 use Rattle.base.specs.declared.refusal.Refusal.TheVariants.{Short, Nameless, TooBig}
 use Rattle.base.specs.declared.labels.Labels.{Labels}
-use Rattle.base.specs.Listing.{listed, known, action_of, lawful}
+use Rattle.base.specs.Listing.{listed, lawful}
 use Rattle.base.proofs.Listed.{length-listed}
 use Rattle.meaning.specs.Lts.{Slot, Lts, named_within}
 use Rattle.model.specs.declared.cell.Cell.{Cell}
-use Rattle.model.specs.Cells.{blank, slot_of, slot_at, sound, sizes_fit, grid_refusal}
-use Rattle.aut.specs.declared.header.Header.{Header}
+use Rattle.model.specs.Cells.{blank, slot_of, slot_at, sound, grid_refusal}
 use Rattle.aut.specs.Form.{Transition, Form}
-use Rattle.aut.specs.Surveys.{within}
-use Rattle.aut.specs.Laying.{cell_of}
-use Rattle.aut.specs.Reading.{leaving, with_name, met, any_below, all_within, overfull, has_room, head_fits, settled, verdict, oversize, cell_or_blank, Filled, Read}
-use Rattle.aut.specs.Writing.{Move, slot_moves, moves_at, moves_of, moves_below, moves, name_at, head_text, moves_text, text_of, all_have_names, write_answer}
-use Rattle.aut.specs.Back.{as_line, as_lines, header_for, Back, ReadsBack}
+use Rattle.aut.specs.Reading.{leaving, met, all_within, has_room, head_fits, verdict, oversize, cell_or_blank, Filled}
+use Rattle.aut.specs.Writing.{Move, slot_moves, moves_at, moves_of, moves_below, moves, head_text, moves_text, text_of, all_have_names, write_answer}
+use Rattle.aut.specs.Back.{as_line, as_lines, header_for, ReadsBack}
 use Rattle.aut.proofs.Spelled.{all_are_names, known_at, action_at}
 use Rattle.aut.proofs.Puts.{head-long}
 use Rattle.aut.proofs.Moves.{text_below, text_long}
 use Rattle.aut.proofs.Rooms.{any_none}
-use Rattle.aut.proofs.Forms.{Fit, AllFit, no_moves, move, line_one, lines_of-moves}
+use Rattle.aut.proofs.Forms.{AllFit, no_moves, move, line_one, lines_of-moves}
 
 -- what holds of each transition of a list
 data Each (P : Move → Type 0) : List Move → Type 0 where

@@ -1,5 +1,5 @@
 -- One turn of the loop over the bytes of a line.
-use Rattle.std.proofs.Common.{◌≡◌, ℕ, ◌+◌, ◌<◌, ◌≤◌, List, ◌∷◌, length, get_or, drop, Some, None, sym, refl, ap, ◌∙◌}
+use Rattle.std.proofs.Common.{◌≡◌, ℕ, ◌+◌, ◌<◌, ◌≤◌, List, length, get_or, drop, Some, None, sym, refl, ap, ◌∙◌}
 use Rattle.std.proofs.lemmas.List.{at_drop_more, at_drop_all}
 use Rattle.aut.specs.declared.field.Field.{Field}
 use Rattle.aut.specs.declared.field.Field.TheVariants.{D, E, S, Blank, HeadOpen, Start, CountGap, Count, StatesGap, States, HeadEnd, Open, From, LabelGap, Quote, Initial, Label, Comma, ToGap, To, LineEnd, Bad}

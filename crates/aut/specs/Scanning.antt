@@ -1,5 +1,5 @@
 -- How the reader goes through a line, byte by byte. Form.antt says what a line is; that the two agree is proved.
-use Rattle.std.specs.Prelude.{◌≡◌, ℕ, zero, suc, ◌+◌, ◌-◌, ◌*◌, Bool, true, false, cond, not, ◌&&◌, ◌||◌, List, [], ◌∷◌, ◌++◌, length, Some, None, Option, ◌==◌, nat_le, nat_lt}
+use Rattle.std.specs.Prelude.{ℕ, zero, suc, ◌+◌, ◌-◌, ◌*◌, Bool, cond, not, ◌&&◌, ◌||◌, List, [], ◌∷◌, ◌++◌, length, Some, None, Option, ◌==◌, nat_le, nat_lt}
 use Rattle.base.specs.Names.{letter, digit, name_byte}
 use Rattle.aut.specs.declared.field.Field.{Field}
 use Rattle.aut.specs.declared.field.Field.TheVariants.{D, E, S, Blank, HeadOpen, Start, CountGap, Count, StatesGap, States, HeadEnd, Open, From, LabelGap, Quote, Initial, Label, Comma, ToGap, To, LineEnd, Bad}

@@ -1,7 +1,7 @@
 -- One byte more at the end of what is spelled.
-use Rattle.std.proofs.Common.{◌≡◌, ℕ, ◌+◌, ◌<◌, ◌≤◌, Bool, true, false, cond, ltb, List, [], ◌∷◌, ◌++◌, length, take, set, sym, refl, ap, ◌∙◌, arith}
+use Rattle.std.proofs.Common.{◌≡◌, ℕ, ◌+◌, ◌<◌, true, cond, ltb, List, [], ◌∷◌, ◌++◌, length, take, set, sym, ◌∙◌, arith}
 use Rattle.std.proofs.lemmas.List.{take_more_set, length-take-le}
-use Rattle.std.proofs.lemmas.Bool.{lt-ltb, le-ltb, cond-true}
+use Rattle.std.proofs.lemmas.Bool.{lt-ltb, cond-true}
 
 module _ (bytes : List ℕ) (len : ℕ) (room : length bytes ≡ 16) where
   pub roomy : len < 16 → ltb (length (take len bytes)) 16 ≡ true

@@ -1,5 +1,5 @@
 -- The functions that read formulas, step by step.
-use Rattle.std.proofs.Common.{◌≡◌, ℕ, ◌+◌, ◌*◌, ◌<◌, ◌≤◌, Bool, true, false, cond, ◌⊎◌, List, [], ◌∷◌, length, Some, None, Option, sym, refl, ap, ◌∙◌, inl, inr, arith}
+use Rattle.std.proofs.Common.{◌≡◌, ℕ, ◌+◌, ◌≤◌, true, false, cond, ◌⊎◌, List, [], ◌∷◌, Some, None, Option, sym, refl, ap, ◌∙◌, inl, inr, arith}
 use Rattle.formula.specs.declared.built.Built.{Built}
 use Rattle.formula.specs.declared.built.BuiltPart.{BuiltPart}
 use Rattle.formula.specs.declared.built.Extent.{Extent}
@@ -13,7 +13,7 @@ use Rattle.formula.specs.declared.token.Token.{Token}
 use Rattle.formula.specs.Tokens.{Tok, mark, name}
 use Rattle.formula.specs.Grammar.{begins}
 use Rattle.formula.specs.Building.{Laid, BuildsBy, Builds, LaidPart, BuildsPart, stage_of}
-use Rattle.formula.specs.Finding.{Settles, Finds}
+use Rattle.formula.specs.Finding.{Settles}
 use Rattle.formula.specs.Laying.{DraftState}
 use Rattle.formula.specs.Places.{unread, first}
 use Rattle.formula.specs.Reading.{past_sign, if_there, Got, then, Stage, OrLevel, OrMore, AndLevel, AndMore, Tight, read, rank, Reads, ended_by, in_braces, with_formula, after_braces, part, link, second_part, two_parts, formula_at, formula, formula_rules}

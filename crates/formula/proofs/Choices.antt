@@ -1,5 +1,5 @@
 -- The functions that read action formulas, step by step.
-use Rattle.std.proofs.Common.{◌≡◌, ℕ, ◌+◌, ◌*◌, ◌<◌, ◌≤◌, Bool, true, false, not, ◌&&◌, ◌||◌, ltb, ◌⊎◌, List, [], ◌∷◌, length, Some, None, Option, sym, refl, ap, ◌∙◌, inl, inr, arith}
+use Rattle.std.proofs.Common.{◌≡◌, ℕ, ◌+◌, ◌*◌, not, ◌&&◌, ◌||◌, ltb, ◌⊎◌, List, ◌∷◌, length, Some, None, Option, ap, ◌∙◌, inl, inr, arith}
 use Rattle.base.specs.declared.action_set.ActionSet.{ActionSet}
 use Rattle.formula.specs.declared.actions.Chosen.{Chosen}
 use Rattle.formula.specs.declared.mark.Operator.{Operator}
@@ -7,14 +7,13 @@ use Rattle.formula.specs.declared.mark.Quantifier.{Quantifier}
 use Rattle.formula.specs.declared.mark.Link.{Link}
 use Rattle.formula.specs.declared.mark.Mark.{Mark}
 use Rattle.formula.specs.declared.mark.Mark.TheVariants.{Short, Path, Between}
-use Rattle.formula.specs.declared.mark.Sign.{Sign}
-use Rattle.formula.specs.declared.mark.Sign.TheVariants.{BraceClose, Close, And, Or}
+use Rattle.formula.specs.declared.mark.Sign.TheVariants.{BraceClose, And, Or}
 use Rattle.formula.specs.declared.token.Token.{Token}
 use Rattle.formula.specs.Tokens.{Tok}
 use Rattle.formula.specs.Choosing.{set_of, IsSet, ChoosesBy, Chooses}
-use Rattle.formula.specs.Finding.{Settles, Finds}
+use Rattle.formula.specs.Finding.{Settles}
 use Rattle.formula.specs.Places.{unread}
-use Rattle.formula.specs.Reading.{past_sign, if_there, ended_by, in_braces, Got, then, Stage, OrLevel, OrMore, AndLevel, AndMore, Tight, read, Reads, in_group, action_at, action_rules}
+use Rattle.formula.specs.Reading.{past_sign, if_there, ended_by, in_braces, Got, then, Stage, OrLevel, OrMore, AndLevel, AndMore, Tight, read, Reads, action_at, action_rules}
 use Rattle.base.specs.Sets.{holds}
 use Rattle.formula.specs.Trees.{Acts, complement, intersection, union}
 use Rattle.formula.proofs.Findings as findings

@@ -1,15 +1,15 @@
 -- What is of the grammar is read.
-use Rattle.std.proofs.Common.{◌≡◌, ℕ, zero, suc, ◌+◌, ◌*◌, ◌<◌, ◌≤◌, Bool, true, false, cond, List, [], ◌∷◌, length, Some, None, Option, sym, refl, ap, ◌∙◌, subst, arith}
+use Rattle.std.proofs.Common.{◌≡◌, ℕ, ◌+◌, ◌*◌, ◌<◌, ◌≤◌, true, cond, List, [], ◌∷◌, length, Some, None, refl, ap, ◌∙◌, arith}
 use Rattle.std.proofs.lemmas.Bool.{false≢true}
 use Rattle.formula.specs.declared.mark.Mark.{Mark}
 use Rattle.formula.specs.declared.mark.Mark.TheVariants.{True, False, Tau, Not, Short, Path, Between, Sign as signed}
 use Rattle.formula.specs.declared.mark.Sign.{Sign}
 use Rattle.formula.specs.declared.mark.Sign.TheVariants.{Open, Close, BracketOpen, BracketClose, BraceOpen, BraceClose, And, Or}
 use Rattle.formula.specs.Tokens.{Tok, mark, name}
-use Rattle.formula.specs.Trees.{Acts, all, none, silent, named, complement, intersection, union, Tree, TRUE, FALSE, NOT, AND, OR, short, path}
+use Rattle.formula.specs.Trees.{Acts, all, none, silent, named, complement, Tree, TRUE, FALSE, NOT, short, path}
 use Rattle.formula.specs.Grammar as grammar
 use Rattle.formula.specs.Grammar.{Level, or_level, and_level, tight, ActionFormula, Derives, Part, opens, begins_with, begins}
-use Rattle.formula.specs.Reading.{past_sign, if_there, Got, then, Stage, OrLevel, OrMore, AndLevel, AndMore, Tight, Rules, read, rank, Reads, ended_by, in_group, action_at, action, action_rules, in_braces, with_formula, after_braces, part, link, second_part, two_parts, formula_at, formula, formula_rules, whole_at, tree_of}
+use Rattle.formula.specs.Reading.{past_sign, if_there, Got, then, Stage, OrLevel, OrMore, AndLevel, AndMore, Tight, Rules, read, rank, Reads, ended_by, action_rules, in_braces, with_formula, after_braces, part, link, second_part, formula_rules, whole_at, tree_of}
 use Rattle.formula.proofs.Stages.{or_some, and_some, or_stop, or_more_some, and_stop, and-more_some, tight-by}
 
 -- what is read at a level goes on as its beginning

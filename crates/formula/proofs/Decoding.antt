@@ -1,10 +1,10 @@
 -- Nodes laid past others: they fit or they do not, the earlier ones decode as before, and the last decodes to the tree.
-use Rattle.std.proofs.Common.{◌≡◌, ℕ, ◌+◌, ◌-◌, ◌<◌, ◌≤◌, Bool, true, false, cond, ltb, ◌⊎◌, List, [], ◌∷◌, ◌++◌, length, get_or, Some, None, Option, sym, refl, ap, ◌∙◌, subst, inl, inr, ⊎_elim, arith}
+use Rattle.std.proofs.Common.{◌≡◌, ℕ, ◌+◌, ◌-◌, ◌<◌, ◌≤◌, ltb, ◌⊎◌, List, [], ◌∷◌, ◌++◌, length, get_or, Some, None, sym, refl, ap, ◌∙◌, inl, inr, ⊎_elim, arith}
 use Rattle.std.proofs.lemmas.List.{append_assoc, length-append, length_push, get_or_push, get_or_append_left}
 use Rattle.std.proofs.lemmas.Bool.{cases_lt, cond-true, cond-false, lt-ltb, le-ltb}
-use Rattle.formula.specs.Formulas.{Formula, TRUE, FALSE, NOT, AND, OR, short, path, by_names, size}
+use Rattle.formula.specs.Formulas.{Formula, TRUE, NOT, AND, OR, short, path, by_names, size}
 use Rattle.formula.specs.Choosing.{set_of}
-use Rattle.formula.specs.Laying.{Shape, true_node, false_node, not_node, and_node, or_node, short_node, path_node, build, grow, formula_at, DraftState, push, top, lay}
+use Rattle.formula.specs.Laying.{Shape, true_node, false_node, not_node, and_node, or_node, short_node, path_node, build, grow, formula_at, push, top, lay}
 use Rattle.formula.specs.Trees as tree
 use Rattle.formula.specs.Trees.{Tree}
 

@@ -1,16 +1,16 @@
 -- From the tokens of a text to what entering it answers.
-use Rattle.std.proofs.Common.{◌≡◌, ℕ, ◌+◌, ◌-◌, ◌*◌, ◌<◌, ◌≤◌, Bool, true, false, cond, ltb, ◌⊎◌, List, [], ◌∷◌, ◌++◌, length, Some, None, Ok, Err, Option, Result, sym, refl, ap, ◌∙◌, subst, inl, inr, ⊎_elim, arith}
+use Rattle.std.proofs.Common.{◌≡◌, ℕ, ◌+◌, ◌-◌, ◌*◌, ◌<◌, ◌≤◌, Bool, true, false, cond, ltb, ◌⊎◌, List, [], ◌∷◌, ◌++◌, length, Some, None, Ok, Err, Option, Result, sym, refl, ap, ◌∙◌, subst, inl, inr, arith}
 use Rattle.std.proofs.lemmas.List.{length-append}
-use Rattle.std.proofs.lemmas.Bool.{cond-true, cond-false, lt-ltb, le-ltb, both_ways, cases_Bool}
+use Rattle.std.proofs.lemmas.Bool.{cond-true, cond-false, lt-ltb, le-ltb, both_ways}
 use Rattle.base.specs.declared.refusal.Refusal.{Refusal}
 use Rattle.base.specs.declared.refusal.Refusal.TheVariants.{Grammar, Nameless, Full}
 use Rattle.formula.specs.declared.nodes.Entry.{Entry}
 use Rattle.formula.specs.declared.nodes.Nodes.{Nodes}
-use Rattle.formula.specs.Entering.{all_listed, fits, verdict, verdict_on, verdict_at, Written, Checked, Planned, Refused, Entered}
-use Rattle.formula.specs.Formulas.{by_names, size}
+use Rattle.formula.specs.Entering.{all_listed, fits, verdict, verdict_on, verdict_at, Written, Planned, Refused, Entered}
+use Rattle.formula.specs.Formulas.{size}
 use Rattle.formula.specs.Grammar.{Says}
-use Rattle.formula.specs.Laying.{DraftState, Shape, shapes, top, lay, formula_at}
-use Rattle.formula.specs.Reading.{Reads, OrLevel, read, formula_rules, nothing_after, whole_at, tree_of}
+use Rattle.formula.specs.Laying.{Shape, shapes, lay, formula_at}
+use Rattle.formula.specs.Reading.{Reads, OrLevel, formula_rules, nothing_after, whole_at, tree_of}
 use Rattle.formula.specs.Tokens.{Tok, tokens_of}
 use Rattle.formula.specs.Trees.{Tree}
 use Rattle.formula.proofs.Complete.{tree_in}

@@ -1,5 +1,5 @@
 -- What a function of the reader finds, from what the functions that it calls find.
-use Rattle.std.proofs.Common.{◌≡◌, ℕ, ◌+◌, ◌-◌, ◌*◌, ◌<◌, ◌≤◌, Bool, true, false, cond, List, [], ◌∷◌, length, drop, Some, None, Option, sym, refl, ap, ◌∙◌, subst, arith}
+use Rattle.std.proofs.Common.{◌≡◌, ℕ, ◌+◌, ◌-◌, ◌*◌, ◌<◌, ◌≤◌, true, cond, List, ◌∷◌, length, drop, Some, None, Option, sym, ap, ◌∙◌, arith}
 use Rattle.std.proofs.lemmas.List.{length-map, length-drop}
 use Rattle.formula.specs.declared.mark.Sign.{Sign}
 use Rattle.formula.specs.declared.mark.Sign.TheVariants.{Close, And, Or}
@@ -9,7 +9,7 @@ use Rattle.formula.specs.Grammar.{opens}
 use Rattle.formula.specs.Places.{unread}
 use Rattle.formula.specs.Finding.{Settles, Finds}
 use Rattle.formula.specs.Reading.{past_sign, if_there, Got, then, Stage, OrLevel, OrMore, AndLevel, AndMore, Tight, Rules, read, rank, Reads, ended_by, in_group}
-use Rattle.formula.proofs.Stages.{or_none, or_some, and_none, and_some, or_stop, or_more-none, or_more_some, and_stop, and-more-none, and-more_some, tight-by}
+use Rattle.formula.proofs.Stages.{or_some, and_some, or_more_some, and-more_some, tight-by}
 
 pub unread-length : (s : List Token) (at : ℕ) → length (unread s at) ≡ length s - at
 unread-length s at = length-map (drop at s) tok ∙ length-drop at s

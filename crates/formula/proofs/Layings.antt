@@ -1,13 +1,13 @@
 -- A node written after those of the formulas below it is laid as its tree is.
-use Rattle.std.proofs.Common.{◌≡◌, ℕ, Bool, List, sym, refl, ap, ◌∙◌}
+use Rattle.std.proofs.Common.{◌≡◌, ℕ, List, ap, ◌∙◌}
 use Rattle.base.specs.declared.action_set.ActionSet.{ActionSet}
 use Rattle.formula.specs.declared.mark.Operator.{Operator}
 use Rattle.formula.specs.declared.mark.Quantifier.{Quantifier}
 use Rattle.formula.specs.declared.mark.Link.{Link}
 use Rattle.formula.specs.Choosing.{set_of, IsSet}
-use Rattle.formula.specs.Laying.{DraftState, Shape, not_node, and_node, or_node, short_node, path_node, push, top, lay}
+use Rattle.formula.specs.Laying.{DraftState, Shape, short_node, path_node, push, top, lay}
 use Rattle.base.specs.Sets.{holds}
-use Rattle.formula.specs.Trees.{Acts, Tree, NOT, AND, OR, short, path}
+use Rattle.formula.specs.Trees.{Acts, Tree, short, path}
 
 module _ (names : List (List ℕ)) where
   -- sets with the same members

@@ -1,13 +1,13 @@
 -- The lexer's function finds the tokens that a text has by longest runs, and no others.
-use Rattle.std.proofs.Common.{◌≡◌, ℕ, zero, suc, ◌+◌, ◌<◌, ◌≤◌, Bool, true, false, cond, not, ◌&&◌, eqb, leb, ◌⊎◌, List, [], ◌∷◌, ◌++◌, length, Some, None, Option, sym, refl, ap, ◌∙◌, subst, subst₂, inl, inr, ⊎_elim, arith}
+use Rattle.std.proofs.Common.{◌≡◌, ℕ, zero, suc, ◌<◌, ◌≤◌, Bool, true, false, cond, not, ◌&&◌, eqb, leb, ◌⊎◌, List, [], ◌∷◌, ◌++◌, length, Some, None, Option, sym, refl, ap, ◌∙◌, subst, inl, inr, arith}
 use Rattle.std.specs.Option.{option_map}
 use Rattle.std.proofs.lemmas.List.{length-append}
 use Rattle.std.proofs.lemmas.Bool.{both_ways, cases_Bool, and_parts, and_from, eqb-true, ne_eqb, leb-true, lt-leb, cond-true, cond-false}
-use Rattle.base.specs.Names.{letter, name_byte, name_bytes, begins_name, is_name}
+use Rattle.base.specs.Names.{letter, name_byte, name_bytes, is_name}
 use Rattle.formula.specs.declared.mark.Mark.{Mark}
 use Rattle.formula.specs.declared.mark.Mark.TheVariants.{Sign as signed}
 use Rattle.formula.specs.declared.mark.Sign.{Sign}
-use Rattle.formula.specs.Tokens.{Tok, mark, name, sign, word, capital, run, past, Front, ended, broken, found, found_mark, word_from, name_from, token_from, front, onward, tokens_in, tokens_of}
+use Rattle.formula.specs.Tokens.{Tok, mark, name, sign, word, capital, run, past, Front, broken, found, found_mark, word_from, name_from, token_from, front, onward, tokens_in}
 use Rattle.formula.specs.Lexes.{all_pass, stops, Lexes, done, space, a_sign, a_word, a_name, LongestRuns}
 
 -- a run and what follows it

@@ -1,9 +1,9 @@
 -- The nodes that a table has: how many, which, and one more.
-use Rattle.std.proofs.Common.{◌≡◌, ℕ, ◌+◌, ◌-◌, ◌<◌, ◌≤◌, Bool, true, false, cond, ltb, List, [], ◌∷◌, ◌++◌, map, length, get_or, take, set, Some, None, Option, sym, refl, ap, ◌∙◌, arith}
+use Rattle.std.proofs.Common.{◌≡◌, ℕ, ◌+◌, ◌-◌, ◌<◌, ◌≤◌, ltb, List, [], ◌∷◌, ◌++◌, map, length, get_or, take, set, Some, None, sym, ap, ◌∙◌, arith}
 use Rattle.std.proofs.lemmas.List.{length-map, length-take-le, get_or-map, get_or-take, take_more_set, map_push, length_push}
 use Rattle.std.proofs.lemmas.Bool.{lt-ltb, le-ltb, cond-true, cond-false}
 use Rattle.formula.specs.declared.node.Node.{Node}
-use Rattle.formula.specs.Laying.{Shape, true_node, shape, shapes, push, top, DraftState}
+use Rattle.formula.specs.Laying.{Shape, true_node, shape, shapes, push, DraftState}
 
 module _ (table : List Node) (count : ℕ) (rows : length table ≡ 48) (few : count ≤ 48) where
   pub length-shapes : length (shapes table count) ≡ count

@@ -7,7 +7,7 @@ use Rattle.formula.specs.declared.mark.Mark.TheVariants.{True, False, Tau, Not, 
 use Rattle.formula.specs.declared.mark.Sign.{Sign}
 use Rattle.formula.specs.declared.mark.Sign.TheVariants.{Open, Close, BracketOpen, BracketClose, BraceOpen, BraceClose, And, Or}
 use Rattle.formula.specs.Tokens.{Tok, mark, name}
-use Rattle.formula.specs.Trees.{Acts, all, none, silent, named, complement, intersection, union, Tree, TRUE, FALSE, NOT, AND, OR, short, path}
+use Rattle.formula.specs.Trees.{Acts, all, complement, Tree, TRUE, NOT, short, path}
 use Rattle.formula.specs.Grammar as grammar
 use Rattle.formula.specs.Grammar.{Level, or_level, and_level, tight, ActionFormula, Derives, Part, begins}
 use Rattle.formula.specs.Reading.{past_sign, if_there, Got, then, Stage, OrLevel, OrMore, AndLevel, AndMore, Tight, Rules, read, ended_by, in_group, action_at, action, action_rules, in_braces, with_formula, after_braces, part, link_of, linked, link, second_part, two_parts, formula_at, formula, formula_rules, nothing_after, whole_at, tree_of}

@@ -1,5 +1,5 @@
 -- The actions that an action formula stands for, by a list of names.
-use Rattle.std.specs.Prelude.{◌≡◌, ℕ, Bool, true, false, not, ◌&&◌, ◌||◌, List, Some, None, Option, ◌==◌, nat_lt}
+use Rattle.std.specs.Prelude.{◌≡◌, ℕ, Bool, false, not, ◌&&◌, ◌||◌, List, Some, None, Option, ◌==◌, nat_lt}
 use Rattle.base.specs.Listing.{action_of}
 use Rattle.base.specs.declared.action_set.ActionSet.{ActionSet}
 use Rattle.formula.specs.declared.actions.Chosen.{Chosen}

@@ -1,11 +1,10 @@
 -- Formulas in a table of nodes, children first.
-use Rattle.std.specs.Prelude.{◌≡◌, ℕ, ◌-◌, Bool, true, false, cond, List, [], ◌∷◌, ◌++◌, map, length, take, Some, None, Option, nat_lt, slice_index_or}
+use Rattle.std.specs.Prelude.{ℕ, ◌-◌, cond, List, [], ◌∷◌, ◌++◌, map, length, take, Some, None, Option, nat_lt, slice_index_or}
 use Rattle.formula.specs.declared.mark.Operator.{Operator}
 use Rattle.formula.specs.declared.mark.Quantifier.{Quantifier}
 use Rattle.formula.specs.declared.mark.Link.{Link}
 use Rattle.formula.specs.declared.node.Node.{Node}
 use Rattle.formula.specs.declared.node.Node.TheVariants as node
-use Rattle.formula.specs.declared.nodes.Nodes.{Nodes}
 use Rattle.formula.specs.declared.nodes.Draft.{Draft}
 use Rattle.formula.specs.Choosing.{set_of}
 use Rattle.formula.specs.Formulas.{Actions, Formula, TRUE, FALSE, NOT, AND, OR, short, path}

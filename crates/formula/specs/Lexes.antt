@@ -1,5 +1,5 @@
 -- The tokens of a text as a relation: spaces may stand anywhere between them, a sign is one character, and a word or a name is a longest run.
-use Rattle.std.specs.Prelude.{◌≡◌, ℕ, Bool, true, false, not, ◌&&◌, List, [], ◌∷◌, ◌++◌, Some, None}
+use Rattle.std.specs.Prelude.{◌≡◌, ℕ, Bool, true, not, ◌&&◌, List, [], ◌∷◌, ◌++◌, Some}
 use Rattle.base.specs.Names.{name_byte, is_name}
 use Rattle.formula.specs.declared.mark.Mark.{Mark}
 use Rattle.formula.specs.declared.mark.Mark.TheVariants.{Sign as signed}

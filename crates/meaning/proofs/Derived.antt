@@ -1,8 +1,7 @@
 -- What the derived operators say, in steps of the state and of its fullpaths.
-use Rattle.std.proofs.Common.{◌≡◌, ℕ, zero, suc, ◌<◌, Bool, true, false, ◌⊎◌, sym, refl, subst, inl, inr, arith}
-use Rattle.std.proofs.lemmas.Bool.{both_ways}
+use Rattle.std.proofs.Common.{ℕ, zero, suc, refl, inl, inr, arith}
 use Rattle.meaning.specs.Lts.{Lts, Transition}
-use Rattle.meaning.specs.Paths.{Fullpath, Kind, Has, Is, Until, Always}
+use Rattle.meaning.specs.Paths.{Fullpath, Kind, Has, Is, Until}
 use Rattle.meaning.specs.Formula.{Actions, no_action, Formula, FALSE, EX, AX, Holds, Part}
 use Rattle.meaning.specs.Laws.{FullpathExists, DerivedAsRead, DerivedReads}
 use Rattle.meaning.proofs.Fullpaths.{Offers, any, follow, before, first_step, has_earlier, moves-on}

@@ -1,7 +1,6 @@
-use Rattle.std.proofs.Common.{◌≡◌, ℕ, ◌-◌, ◌≤◌, length, sym, refl, ap, ◌∙◌, arith}
+use Rattle.std.proofs.Common.{◌≡◌, ◌-◌, arith}
 use Rattle.std.proofs.lemmas.Result.{err_from_is_err_and}
-use Rattle.base.specs.Listing.{listed}
-use Rattle.aut.proofs.Copies.{is-length, not_written, written}
+use Rattle.aut.proofs.Copies.{not_written, written}
 use Rattle.aut.proofs.copy.copy_through_text.Goals as goal
 
 pub returns-in_err-length : goal.returns-in_err-length

@@ -1,4 +1,4 @@
-use Rattle.std.proofs.Common.{◌≡◌, [], length, unwrap_or, sym, ap, ◌∙◌, arith}
+use Rattle.std.proofs.Common.{◌≡◌, [], length, unwrap_or, ap, arith}
 use Rattle.base.specs.Listing.{listed}
 use Rattle.aut.specs.Writing.{name_at}
 use Rattle.aut.proofs.Spelled.{name-short}

@@ -1,4 +1,4 @@
-use Rattle.std.proofs.Common.{◌≡◌, length, decimal, sym, arith}
+use Rattle.std.proofs.Common.{arith}
 use Rattle.aut.proofs.Puts.{length_five, unit_long, unit_short}
 use Rattle.aut.proofs.putting.number_length.Goals as goal
 

@@ -1,4 +1,4 @@
-use Rattle.std.proofs.Common.{[], ◌∷◌, ◌++◌, codes, decimal, arith}
+use Rattle.std.proofs.Common.{◌++◌, codes, decimal, arith}
 use Rattle.aut.proofs.Puts.{put-put, head-long}
 use Rattle.aut.proofs.putting.put_head.Goals as goal
 

@@ -1,4 +1,4 @@
-use Rattle.std.proofs.Common.{◌≡◌, ◌+◌, ◌%◌, ◌<◌, [], ◌∷◌, ◌++◌, length, decimal, sym, arith}
+use Rattle.std.proofs.Common.{◌+◌, ◌%◌, ◌<◌, [], ◌∷◌, ◌++◌, length, decimal, sym, arith}
 use Rattle.aut.specs.Writing.{unit_digit, five_digits}
 use Rattle.aut.proofs.Puts.{put_one, put-put, put_same, decimal_five, length_five}
 use Rattle.aut.proofs.putting.put_number.Goals as goal

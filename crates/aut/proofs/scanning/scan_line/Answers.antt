@@ -1,4 +1,4 @@
-use Rattle.std.proofs.Common.{◌≡◌, drop, sym, ap, ◌∙◌, arith}
+use Rattle.std.proofs.Common.{drop, sym, ap, ◌∙◌, arith}
 use Rattle.aut.specs.Scanning.{scan_on}
 use Rattle.aut.specs.Views.{view}
 use Rattle.aut.proofs.Walks.{goes_on, ends, breaks, runs_out}

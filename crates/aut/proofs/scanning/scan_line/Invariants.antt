@@ -1,4 +1,4 @@
-use Rattle.std.proofs.Common.{◌≡◌, ◌≤◌, drop}
+use Rattle.std.proofs.Common.{◌≡◌, drop}
 use Rattle.aut.specs.Scanning.{scan_on}
 use Rattle.aut.specs.Views.{view}
 use Rattle.aut.proofs.scanning.scan_line.Given as goal

@@ -1,4 +1,4 @@
-use Rattle.std.proofs.Common.{◌≡◌, ◌+◌, ◌-◌, drop, sym, refl, ap, ◌∙◌}
+use Rattle.std.proofs.Common.{◌+◌, ◌-◌, drop, sym, refl, ap, ◌∙◌}
 use Rattle.aut.specs.Surveys.{seen, noted, all_noted, surveyed}
 use Rattle.aut.specs.Views.{view}
 use Rattle.aut.proofs.Folds as folds

@@ -1,4 +1,4 @@
-use Rattle.std.proofs.Common.{◌≡◌, ◌+◌, ◌*◌, ◌<◌, ◌≤◌, length, sym, refl, ap, ◌∙◌, arith}
+use Rattle.std.proofs.Common.{◌≡◌, ◌<◌, sym, ap, ◌∙◌, arith}
 use Rattle.base.specs.Listing.{listed}
 use Rattle.aut.specs.Writing.{moves_of, moves_below, all_tallied, no_tally}
 use Rattle.aut.proofs.Moves.{moves_below-more, few_below, text_below, tally_append, tally_count, tally_length}

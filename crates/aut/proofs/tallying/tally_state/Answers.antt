@@ -1,4 +1,4 @@
-use Rattle.std.proofs.Common.{◌≡◌, ◌+◌, ◌*◌, ◌<◌, ◌≤◌, [], ◌∷◌, ◌++◌, length, Some, sym, refl, ap, ◌∙◌, arith}
+use Rattle.std.proofs.Common.{◌≡◌, ◌+◌, ◌<◌, Some, sym, ap, ◌∙◌, arith}
 use Rattle.base.specs.Listing.{listed}
 use Rattle.aut.specs.Writing.{slot_moves, moves_at, all_tallied}
 use Rattle.aut.proofs.Moves.{moves_at-more, few-at, text_at, tally_append, tally_count, tally_length}

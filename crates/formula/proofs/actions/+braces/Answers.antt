@@ -1,4 +1,4 @@
-use Rattle.std.proofs.Common.{◌≡◌, ◌+◌, ◌≤◌, ◌∷◌, Some, None, refl, ap, ◌∙◌, arith}
+use Rattle.std.proofs.Common.{◌+◌, ◌∷◌, Some, None, refl, ap, ◌∙◌, arith}
 use Rattle.base.specs.Listing.{spelled, listed}
 use Rattle.formula.specs.declared.mark.Mark.TheVariants.{True, False, Tau, Not, Sign as signed}
 use Rattle.formula.specs.declared.token.Token.TheVariants as token

@@ -1,4 +1,4 @@
-use Rattle.std.proofs.Common.{◌≡◌, arith}
+use Rattle.std.proofs.Common.{arith}
 use Rattle.base.specs.Listing.{listed}
 use Rattle.formula.specs.Places.{unread}
 use Rattle.formula.proofs.Choices as choices

@@ -1,4 +1,4 @@
-use Rattle.std.proofs.Common.{◌≡◌, Bool, List, map, refl, ap, ◌∙◌}
+use Rattle.std.proofs.Common.{map, refl, ap, ◌∙◌}
 use Rattle.base.specs.Listing.{listed}
 use Rattle.base.proofs.AllOf as every
 use Rattle.formula.specs.Entering.{is_listed, all_listed}

@@ -1,4 +1,4 @@
-use Rattle.std.proofs.Common.{◌≡◌, ◌<◌, length, sym, subst, arith}
+use Rattle.std.proofs.Common.{sym, subst, arith}
 use Rattle.base.specs.Listing.{listed}
 use Rattle.formula.specs.Entering.{Whole}
 use Rattle.formula.specs.Laying.{drafted}

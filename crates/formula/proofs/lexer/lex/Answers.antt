@@ -1,4 +1,4 @@
-use Rattle.std.proofs.Common.{◌<◌, ◌≤◌, length, arith, rules}
+use Rattle.std.proofs.Common.{arith}
 use Rattle.formula.proofs.Lexing.{begins, at_end, at_break, at_token}
 use Rattle.formula.proofs.lexer.lex.Goals as goal
 

@@ -1,4 +1,4 @@
-use Rattle.std.proofs.Common.{◌≡◌, ◌≤◌, length, subst, arith}
+use Rattle.std.proofs.Common.{◌≡◌, length, subst, arith}
 use Rattle.formula.specs.Tokens.{in_run}
 use Rattle.formula.proofs.Runs.{Going, goes_on, stops, runs_out}
 use Rattle.formula.proofs.lexer.run_end.Goals as goal

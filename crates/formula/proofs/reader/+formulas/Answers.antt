@@ -1,10 +1,10 @@
-use Rattle.std.proofs.Common.{◌≡◌, ◌+◌, ◌≤◌, ◌∷◌, Some, None, refl, ap, ◌∙◌, arith}
+use Rattle.std.proofs.Common.{◌+◌, ◌∷◌, Some, None, refl, ap, ◌∙◌, arith}
 use Rattle.base.specs.Listing.{listed}
 use Rattle.formula.specs.declared.mark.Mark.TheVariants.{True, False, Not, Short, Path, Sign as signed}
 use Rattle.formula.specs.Tokens.{mark}
 use Rattle.formula.specs.Laying.{drafted, not_node, and_node, or_node}
 use Rattle.formula.specs.Places.{unread}
-use Rattle.formula.specs.Reading.{then, read, formula, formula_rules}
+use Rattle.formula.specs.Reading.{then, read, formula_rules}
 use Rattle.formula.specs.Trees.{TRUE, FALSE, NOT, AND, OR, short, path, all}
 use Rattle.formula.proofs.Buildings as buildings
 use Rattle.formula.proofs.Findings.{grouped-by}

@@ -1,6 +1,6 @@
 use Rattle.std.proofs.Common.{length, sym, ◌∙◌, arith}
 use Rattle.std.proofs.lemmas.List.{length-set}
-use Rattle.std.proofs.lemmas.Bool.{le-leb, lt-leb, cond-true, cond-false}
+use Rattle.std.proofs.lemmas.Bool.{lt-leb, cond-false}
 use Rattle.base.specs.Listing.{listed}
 use Rattle.base.proofs.Listed.{length-listed, new-names, grown, grown-lawful}
 use Rattle.base.proofs.labels.Labels.add.Goals as goal

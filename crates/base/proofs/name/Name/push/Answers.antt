@@ -1,4 +1,4 @@
-use Rattle.std.proofs.Common.{sym, rules}
+use Rattle.std.proofs.Common.{sym}
 use Rattle.base.proofs.OneMore.{roomy, longer}
 use Rattle.base.proofs.name.Name.push.Goals as goal
 
