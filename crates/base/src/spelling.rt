@@ -1,4 +1,4 @@
-ghost use Rattle.std.specs.Prelude.{◌≡◌, Bool, true, ltb, List, [], ◌∷◌, ◌++◌, length, take, if◌then◌else◌, nat_lt};
+ghost use Rattle.std.specs.Prelude.{◌≡◌, Bool, true, List, [], ◌∷◌, ◌++◌, length, take, if◌then◌else◌, nat_lt};
 ghost use Rattle.std.specs.Str.{bytes_eq};
 ghost use Rattle.base.specs.Listing.{spelled};
 ghost use Rattle.base.specs.Names.{letter, name_byte, name_bytes, begins_name, is_name};
@@ -70,7 +70,7 @@ impl Name {
     // One byte more, or false where there are 16 already.
     pub fn push(&mut self, byte: u8) -> bool
         ensures answer { result ≡ nat_lt (length (spelled self.old)) 16 }
-        ensures after { spelled self.new ≡ (if ltb (length (spelled self.old)) 16 then spelled self.old ++ byte ∷ [] else spelled self.old) }
+        ensures after { spelled self.new ≡ (if nat_lt (length (spelled self.old)) 16 then spelled self.old ++ byte ∷ [] else spelled self.old) }
     {
         if self.len >= LONGEST_NAME {
             return false;
