@@ -5,7 +5,7 @@ use Rattle.std.proofs.lemmas.Bool.{ltb-false}
 use Rattle.base.specs.declared.refusal.Refusal.{Refusal}
 use Rattle.base.specs.declared.refusal.Refusal.TheVariants.{Short, Nameless, TooBig}
 use Rattle.base.specs.declared.labels.Labels.{Labels}
-use Rattle.base.specs.Listing.{listed}
+use Rattle.base.specs.Labels.{listed}
 use Rattle.meaning.specs.Lts.{Lts}
 use Rattle.model.specs.declared.cell.Cell.{Cell}
 use Rattle.aut.specs.declared.header.Header.{Header}
@@ -27,7 +27,7 @@ is-length M names room n e = at (ltb 65536 (length (moves M))) (all_have_names n
 
 module _ (M : Lts) (w : ℕ) (before : Labels) (text text' : List ℕ) (cells : List Cell) where
   abbrev names : List (List ℕ)
-  names = listed before.table before.count
+  names = listed before
 
   pub not_written : (e : Refusal) → Err e ≡ write_answer M names (length text) → text' ≡ text → Copied M w before before text text' cells cells (Err e)
   not_written e h same = record {
@@ -55,10 +55,10 @@ module _ (M : Lts) (w : ℕ) (before : Labels) (text text' : List ℕ) (cells : 
       no_refusal : {X : Type 0} (e : Refusal) → ◌≡◌ {A = Result ℕ Refusal} (Ok n) (Err e) → X
       no_refusal e p = let z : ◌≡◌ {A = ℕ} 0 1 = cc in absurd (omega arith)
 
-      the_text : take k text' ≡ text_of M (listed before.table before.count)
+      the_text : take k text' ≡ text_of M (listed before)
       the_text =
-          let e : k ≡ length (text_of M (listed before.table before.count)) = same ∙ (is-length M (listed before.table before.count) (length text) n (sym h)).0 in
-          ap (take k) bytes ∙ take_at (text_of M (listed before.table before.count)) (drop (length (text_of M (listed before.table before.count))) text) k (sym e)
+          let e : k ≡ length (text_of M (listed before)) = same ∙ (is-length M (listed before) (length text) n (sym h)).0 in
+          ap (take k) bytes ∙ take_at (text_of M (listed before)) (drop (length (text_of M (listed before))) text) k (sym e)
 
-      the_read : Read (text_of M (listed before.table before.count)) 65536 w before after cells cells' r
+      the_read : Read (text_of M (listed before)) 65536 w before after cells cells' r
       the_read = subst (λ x. Read x 65536 w before after cells cells' r) the_text read

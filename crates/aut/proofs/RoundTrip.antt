@@ -8,7 +8,8 @@ use Rattle.std.proofs.lemmas.Nat.{div_below, mod_below}
 use Rattle.std.proofs.lemmas.Fmt.{length-decimal-le}
 use Rattle.base.specs.declared.refusal.Refusal.TheVariants.{Short, Nameless, TooBig}
 use Rattle.base.specs.declared.labels.Labels.{Labels}
-use Rattle.base.specs.Listing.{listed, lawful}
+use Rattle.base.specs.Listing.{lawful}
+use Rattle.base.specs.Labels.{listed}
 use Rattle.base.proofs.Listed.{length-listed}
 use Rattle.meaning.specs.Lts.{Slot, Lts, named_within}
 use Rattle.model.specs.declared.cell.Cell.{Cell}
@@ -174,10 +175,10 @@ module _ (M : Lts) (names : List (List ℕ)) (room n : ℕ) (ok : write_answer M
       at true e k = e
       at false e k = let z : ◌≡◌ {A = ℕ} 0 1 = cc in absurd (omega arith)
 
-module _ (M : Lts) (before : Labels) (room w size : ℕ) (ok : write_answer M (listed before.table before.count) room ≡ Ok (length (text_of M (listed before.table before.count))))
+module _ (M : Lts) (before : Labels) (room w size : ℕ) (ok : write_answer M (listed before) room ≡ Ok (length (text_of M (listed before))))
     (some : 1 ≤ w) (wide : w ≤ 64) (few : (s : ℕ) → s < M.states → length (moves_of M s) ≤ w) (enough : M.states * w ≤ size) where
   abbrev names : List (List ℕ)
-  names = listed before.table before.count
+  names = listed before
 
   abbrev ls : List Transition
   ls = as_lines names (moves M)
@@ -245,30 +246,30 @@ reads-back M before after room w cells cells' r ok some wide few enough read = r
 }
   where
     xs : List (List ℕ)
-    xs = listed before.table before.count
+    xs = listed before
 
-    the_form : Form (text_of M (listed before.table before.count)) (header_for M) (as_lines (listed before.table before.count) (moves M))
+    the_form : Form (text_of M (listed before)) (header_for M) (as_lines (listed before) (moves M))
     the_form = form M before room w (length cells) ok some wide few enough
 
     answer : r ≡ Ok (header_for M)
-    answer = read.formed (not_large M before room w (length cells) ok some wide few enough) (header_for M) (as_lines (listed before.table before.count) (moves M)) the_form
+    answer = read.formed (not_large M before room w (length cells) ok some wide few enough) (header_for M) (as_lines (listed before) (moves M)) the_form
         ∙ not_refused M before room w (length cells) ok some wide few enough
 
-    all : all_have_names (listed before.table before.count) (moves M) ≡ true
+    all : all_have_names (listed before) (moves M) ≡ true
     all = have M before room w (length cells) ok some wide few enough
 
-    labels : listed after.table after.count ≡ listed before.table before.count
-    labels = read.named (header_for M) (as_lines (listed before.table before.count) (moves M)) the_form answer ∙ met-none (listed before.table before.count) (moves M) all
+    labels : listed after ≡ listed before
+    labels = read.named (header_for M) (as_lines (listed before) (moves M)) the_form answer ∙ met-none (listed before) (moves M) all
 
-    filled : Filled M.states w (listed after.table after.count) (as_lines (listed before.table before.count) (moves M)) cells cells'
-    filled = read.filled (header_for M) (as_lines (listed before.table before.count) (moves M)) the_form answer
+    filled : Filled M.states w (listed after) (as_lines (listed before) (moves M)) cells cells'
+    filled = read.filled (header_for M) (as_lines (listed before) (moves M)) the_form answer
 
     slots : (s k : ℕ) → s < M.states → k < w → slot_of (get_or cells' (s * w + k) blank) ≡ option_map (λ m. (m.action, m.to)) (slice_get (moves_of M s) k)
     slots s k h j =
         ap slot_of (filled.slots s k h j)
-        ∙ ap (λ n. slot_of (cell_or_blank n (slice_get (leaving s (as_lines (listed before.table before.count) (moves M))) k))) labels
-        ∙ ap (λ x. slot_of (cell_or_blank (listed before.table before.count) (slice_get x k))) (leaving-is M (listed before.table before.count) M.states s h)
-        ∙ cell_back (listed before.table before.count) (moves_of M s) k before.kept (have_of M (listed before.table before.count) M.states s h all)
+        ∙ ap (λ n. slot_of (cell_or_blank n (slice_get (leaving s (as_lines (listed before) (moves M))) k))) labels
+        ∙ ap (λ x. slot_of (cell_or_blank (listed before) (slice_get x k))) (leaving-is M (listed before) M.states s h)
+        ∙ cell_back (listed before) (moves_of M s) k before.kept (have_of M (listed before) M.states s h all)
 
     -- cell i is slot i % w of state i / w
     cell_within : (i : ℕ) → i < M.states * w → named_within M.states (slot_at cells' i) ≡ true

@@ -2,7 +2,8 @@
 use Rattle.std.specs.Prelude.{ℕ, ◌+◌, Bool, false, cond, ◌&&◌, List, [], ◌∷◌, Ok, Err, Option, Result, nat_le, nat_lt, slice_index, slice_set}
 use Rattle.std.specs.Option.{option_map}
 use Rattle.base.specs.declared.refusal.Refusal.{Refusal}
-use Rattle.base.specs.Listing.{listed, add_answer, add_names}
+use Rattle.base.specs.Listing.{add_answer, add_names}
+use Rattle.base.specs.Labels.{listed}
 use Rattle.aut.specs.declared.survey.Survey.{Survey}
 use Rattle.aut.specs.Form.{Transition}
 use Rattle.aut.specs.Scanning.{lines_of}
@@ -15,7 +16,7 @@ pub record Seen : Type 0 where
   pub room : Bool
 
 abbrev pub seen : Survey → Seen
-seen s = record { names = listed s.labels.table s.labels.count; counts = s.counts; inside = s.inside; room = s.room }
+seen s = record { names = listed s.labels; counts = s.counts; inside = s.inside; room = s.room }
 
 -- both states are below n
 abbrev pub within : ℕ → Transition → Bool

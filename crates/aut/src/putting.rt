@@ -1,5 +1,5 @@
 ghost use Rattle.std.specs.Prelude.{◌≡◌, ℕ, ◌+◌, ◌-◌, ◌/◌, ◌%◌, ◌<◌, ◌≤◌, List, [], ◌∷◌, length, decimal};
-ghost use Rattle.base.specs.Listing.{listed};
+ghost use Rattle.base.specs.Labels.{listed};
 ghost use Rattle.aut.specs.Writing.{Put, unit_digit, name_at, line_text, head_text};
 
 use base::labels::Labels;
@@ -60,7 +60,7 @@ pub(crate) fn number_length(number: usize) -> usize
 
 // The name of an action, or no bytes.
 pub(crate) fn name_bytes<'a>(labels: &'a Labels, action: u8) -> &'a [u8]
-    ensures value { result.now ≡ name_at (listed labels.now.table labels.now.count) action }
+    ensures value { result.now ≡ name_at (listed labels.now) action }
     ensures short { length result.now ≤ 16 }
 {
     match labels.name_of(action) {

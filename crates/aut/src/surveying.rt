@@ -1,5 +1,5 @@
 ghost use Rattle.std.specs.Prelude.{◌≡◌, ℕ, ◌+◌, ◌<◌, ◌≤◌, Bool, true, false, List, [], ◌∷◌, length, drop, Some, None, MatchBool, slice_index};
-ghost use Rattle.base.specs.Listing.{listed};
+ghost use Rattle.base.specs.Labels.{listed};
 ghost use Rattle.aut.specs.Surveys.{seen, placed, noted, surveyed};
 ghost use Rattle.aut.specs.Views.{line_of};
 
@@ -20,7 +20,7 @@ pub(crate) fn no_counts() -> [u8; 65536]
 impl Survey {
     // Nothing seen yet.
     pub(crate) fn start(labels: Labels) -> Survey
-        ensures names { (seen result).names ≡ listed labels.table labels.count }
+        ensures names { (seen result).names ≡ listed labels }
         ensures counts { (s : ℕ) → slice_index (seen result).counts s ≡ 0 }
         ensures flags { ((seen result).inside ≡ true) × ((seen result).room ≡ true) }
     {

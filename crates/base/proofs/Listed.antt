@@ -6,31 +6,31 @@ use Rattle.std.proofs.lemmas.Bool.{both_ways, and_parts, and_from, or_from, or_p
 use Rattle.std.proofs.lemmas.Slice.Eq.{bytes_eq-Decides}
 use Rattle.base.specs.Names.{is_name, begins_name, name_bytes}
 use Rattle.base.specs.declared.refusal.Refusal.TheVariants.{Crowded}
-use Rattle.base.specs.Listing.{spelled, listed, place, known, all_names, distinct, tau_first, lawful, action_of, answer_at, names_at, add_answer, add_names}
+use Rattle.base.specs.Listing.{spelled, place, known, all_names, distinct, tau_first, lawful, action_of, answer_at, names_at, add_answer, add_names, first_names}
 use Rattle.base.specs.declared.name.Name.{Name}
 
 module _ (table : List Name) (count : ℕ) (rows : length table ≡ 64) (few : count ≤ 64) where
   taken : length (take count table) ≡ count
   taken = length-take-le count table (omega arith)
 
-  pub length-listed : length (listed table count) ≡ count
+  pub length-listed : length (first_names table count) ≡ count
   length-listed = length-map (take count table) spelled ∙ taken
 
-  pub listed_at : (i : ℕ) (d : Name) → i < count → get_or (listed table count) i [] ≡ spelled (get_or table i d)
+  pub listed_at : (i : ℕ) (d : Name) → i < count → get_or (first_names table count) i [] ≡ spelled (get_or table i d)
   listed_at i d h = get_or-map spelled (take count table) i d [] (omega (arith, taken)) ∙ ap spelled (get_or-take count table i d h)
 
-  listed-push : (n : Name) → count < 64 → listed (set table count n) (count + 1) ≡ listed table count ++ spelled n ∷ []
+  listed-push : (n : Name) → count < 64 → first_names (set table count n) (count + 1) ≡ first_names table count ++ spelled n ∷ []
   listed-push n h = ap (map spelled) (take_more_set table count n (omega arith)) ∙ map_push spelled (take count table) n
 
   -- the search for the first place, at name i and past the last
   pub place-step : (name : List ℕ) (i : ℕ) (d : Name) (b : Bool) → i < count → b ≡ bytes_eq (spelled (get_or table i d)) name →
-      place i name (drop i (listed table count)) ≡ cond b (Some i) (place (i + 1) name (drop (i + 1) (listed table count)))
+      place i name (drop i (first_names table count)) ≡ cond b (Some i) (place (i + 1) name (drop (i + 1) (first_names table count)))
   place-step name i d b h e =
-      at_drop_more (place i name) (listed table count) i [] (omega (arith, length-listed))
-      ∙ ap (λ x. cond x (Some i) (place (i + 1) name (drop (i + 1) (listed table count)))) (ap (λ x. bytes_eq x name) (listed_at i d h) ∙ sym e)
+      at_drop_more (place i name) (first_names table count) i [] (omega (arith, length-listed))
+      ∙ ap (λ x. cond x (Some i) (place (i + 1) name (drop (i + 1) (first_names table count)))) (ap (λ x. bytes_eq x name) (listed_at i d h) ∙ sym e)
 
-  pub place_end : (name : List ℕ) (i : ℕ) → count ≤ i → place i name (drop i (listed table count)) ≡ None
-  place_end name i h = at_drop_all (place i name) (listed table count) i (omega (arith, length-listed))
+  pub place_end : (name : List ℕ) (i : ℕ) → count ≤ i → place i name (drop i (first_names table count)) ≡ None
+  place_end name i h = at_drop_all (place i name) (first_names table count) i (omega (arith, length-listed))
 
 -- what adding does with a name that is new
 pub new-answer : (name : List ℕ) (xs : List (List ℕ)) → true ≡ is_name name → None ≡ action_of name xs →
@@ -87,8 +87,8 @@ name-fits y h = take_all 16 y (leb-true _ _ (and_parts (leb (length y) 16) (begi
 -- the table with a new name written past the last
 module _ (table : List Name) (count : ℕ) (rows : length table ≡ 64) (few : count ≤ 64) (n : Name) (y : List ℕ)
     (room : count < 64) (is : true ≡ is_name y) (told : spelled n ≡ take 16 y) where
-  pub grown : listed (set table count n) (count + 1) ≡ listed table count ++ y ∷ []
-  grown = listed-push table count rows few n room ∙ ap (λ x. listed table count ++ x ∷ []) (told ∙ name-fits y (sym is))
+  pub grown : first_names (set table count n) (count + 1) ≡ first_names table count ++ y ∷ []
+  grown = listed-push table count rows few n room ∙ ap (λ x. first_names table count ++ x ∷ []) (told ∙ name-fits y (sym is))
 
-  pub grown-lawful : lawful (listed table count) ≡ true → None ≡ action_of y (listed table count) → lawful (listed (set table count n) (count + 1)) ≡ true
-  grown-lawful h e = ap lawful grown ∙ lawful-push y (listed table count) h (sym is) (unknown 0 y (listed table count) (sym e))
+  pub grown-lawful : lawful (first_names table count) ≡ true → None ≡ action_of y (first_names table count) → lawful (first_names (set table count n) (count + 1)) ≡ true
+  grown-lawful h e = ap lawful grown ∙ lawful-push y (first_names table count) h (sym is) (unknown 0 y (first_names table count) (sym e))

@@ -1,4 +1,5 @@
 pub mod Refusals
 pub mod Names
+pub mod Labels
 pub mod Listing
 pub mod Sets

@@ -11,8 +11,8 @@ abbrev pub spelled : Name → List ℕ
 spelled n = take n.len n.bytes
 
 -- the names in use: the first `count` of the table
-abbrev pub listed : List Name → ℕ → List (List ℕ)
-listed table count = map spelled (take count table)
+abbrev pub first_names : List Name → ℕ → List (List ℕ)
+first_names table count = map spelled (take count table)
 
 -- the place of the first name that is spelled so, counting from k
 abbrev pub place : ℕ → List ℕ → List (List ℕ) → Option ℕ

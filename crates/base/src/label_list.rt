@@ -1,5 +1,6 @@
 ghost use Rattle.std.specs.Prelude.{◌≡◌, ◌≤◌, List, [], ◌∷◌, length, codes};
-ghost use Rattle.base.specs.Listing.{listed, spelled, action_of, add_answer, add_names};
+ghost use Rattle.base.specs.Listing.{spelled, action_of, add_answer, add_names};
+ghost use Rattle.base.specs.Labels.{listed};
 ghost use Rattle.std.specs.Option.{option_map};
 ghost use Rattle.std.specs.List.{slice_get};
 
@@ -11,7 +12,7 @@ use crate::spelling::is_name;
 impl Labels {
     // A fresh list: tau alone.
     pub fn fresh() -> Labels
-        ensures { listed result.table result.count ≡ codes "tau" ∷ [] }
+        ensures { listed result ≡ codes "tau" ∷ [] }
     {
         let tau = Name {
             bytes: [b't', b'a', b'u', 0, 0, 0, 0, 0, 0, 0, 0, 0, 0, 0, 0, 0],
@@ -25,7 +26,7 @@ impl Labels {
 
     // The action that a name stands for.
     pub fn lookup(&self, name: &[u8]) -> Option<u8>
-        ensures { result ≡ action_of name.now (listed self.now.table self.now.count) }
+        ensures { result ≡ action_of name.now (listed self.now) }
     {
         for i in 0..self.count {
             if self.table[i].is(name) {
@@ -37,7 +38,7 @@ impl Labels {
 
     // The name of an action.
     pub fn name_of(&self, action: u8) -> Option<&[u8]>
-        ensures { option_map (λ x. x.now) result ≡ slice_get (listed self.now.table self.now.count) action }
+        ensures { option_map (λ x. x.now) result ≡ slice_get (listed self.now) action }
     {
         let i = action as usize;
         if i < self.count {
@@ -49,15 +50,15 @@ impl Labels {
 
     // How many names there are, tau among them.
     pub fn count(&self) -> usize
-        ensures { result ≡ length (listed self.now.table self.now.count) }
+        ensures { result ≡ length (listed self.now) }
     {
         self.table[0..self.count].len()
     }
 
     // The action of a name, which is added at the end if it is new.
     pub fn add(&mut self, name: &[u8]) -> Result<u8, Refusal>
-        ensures answer { result ≡ add_answer name.now (listed self.old.table self.old.count) }
-        ensures names { listed self.new.table self.new.count ≡ add_names name.now (listed self.old.table self.old.count) }
+        ensures answer { result ≡ add_answer name.now (listed self.old) }
+        ensures names { listed self.new ≡ add_names name.now (listed self.old) }
     {
         if !is_name(name) {
             return Err(Refusal::Garbled);

@@ -1,5 +1,5 @@
 ghost use Rattle.std.specs.Prelude.{◌≡◌, ◌≤◌, true, length};
-ghost use Rattle.base.specs.Listing.{listed, lawful};
+ghost use Rattle.base.specs.Listing.{lawful, first_names};
 
 use crate::name::Name;
 
@@ -13,5 +13,5 @@ pub struct Labels {
     pub(crate) count: usize,
     ghost rows: { length table ≡ 64 },
     ghost few: { count ≤ 64 },
-    ghost kept: { lawful (listed table count) ≡ true },
+    ghost kept: { lawful (first_names table count) ≡ true },
 }

@@ -1,5 +1,6 @@
 ghost use Rattle.std.specs.Prelude.{◌≡◌, ℕ, ◌+◌, ◌<◌, ◌≤◌, Bool, true, false, length, Some};
-ghost use Rattle.base.specs.Listing.{spelled, listed};
+ghost use Rattle.base.specs.Listing.{spelled};
+ghost use Rattle.base.specs.Labels.{listed};
 ghost use Rattle.formula.specs.Choosing.{set_of, IsSet, Chooses, ChoosesBy};
 ghost use Rattle.formula.specs.Places.{unread};
 ghost use Rattle.formula.specs.Reading.{OrLevel, OrMore, AndLevel, AndMore, Tight, Stage, Got, then, read, action_rules, in_group, in_braces};
@@ -22,7 +23,7 @@ pub struct Chosen {
 
 // The action of a name. A name that is not listed has none; such texts are refused elsewhere.
 fn named(name: Name, labels: &Labels) -> ActionSet
-    ensures { IsSet (listed labels.now.table labels.now.count) (named (spelled name)) result }
+    ensures { IsSet (listed labels.now) (named (spelled name)) result }
 {
     match labels.lookup(name.as_bytes()) {
         Some(action) => ActionSet::only(action),
@@ -33,7 +34,7 @@ fn named(name: Name, labels: &Labels) -> ActionSet
 // An action formula: a chain of OR.
 #[cycle(braces)]
 pub(crate) fn any_of(tokens: &[Token], at: usize, labels: &Labels) -> Option<Chosen>
-    ensures { Chooses (listed labels.now.table labels.now.count) tokens.now at OrLevel result }
+    ensures { Chooses (listed labels.now) tokens.now at OrLevel result }
 {
     let first = all_of(tokens, at, labels)?;
     any_more(first, tokens, labels)
@@ -42,7 +43,7 @@ pub(crate) fn any_of(tokens: &[Token], at: usize, labels: &Labels) -> Option<Cho
 // What goes on after the beginning of such a chain.
 #[cycle(braces)]
 fn any_more(left: Chosen, tokens: &[Token], labels: &Labels) -> Option<Chosen>
-    ensures { (c : Acts) → IsSet (listed labels.now.table labels.now.count) c left.actions → Chooses (listed labels.now.table labels.now.count) tokens.now left.end (OrMore c) result }
+    ensures { (c : Acts) → IsSet (listed labels.now) c left.actions → Chooses (listed labels.now) tokens.now left.end (OrMore c) result }
 {
     let Some(next) = after(tokens, left.end, Sign::Or) else {
         return Some(left);
@@ -58,7 +59,7 @@ fn any_more(left: Chosen, tokens: &[Token], labels: &Labels) -> Option<Chosen>
 // A chain of AND.
 #[cycle(braces)]
 fn all_of(tokens: &[Token], at: usize, labels: &Labels) -> Option<Chosen>
-    ensures { Chooses (listed labels.now.table labels.now.count) tokens.now at AndLevel result }
+    ensures { Chooses (listed labels.now) tokens.now at AndLevel result }
 {
     let first = tight(tokens, at, labels)?;
     all_more(first, tokens, labels)
@@ -67,7 +68,7 @@ fn all_of(tokens: &[Token], at: usize, labels: &Labels) -> Option<Chosen>
 // What goes on after the beginning of such a chain.
 #[cycle(braces)]
 fn all_more(left: Chosen, tokens: &[Token], labels: &Labels) -> Option<Chosen>
-    ensures { (c : Acts) → IsSet (listed labels.now.table labels.now.count) c left.actions → Chooses (listed labels.now.table labels.now.count) tokens.now left.end (AndMore c) result }
+    ensures { (c : Acts) → IsSet (listed labels.now) c left.actions → Chooses (listed labels.now) tokens.now left.end (AndMore c) result }
 {
     let Some(next) = after(tokens, left.end, Sign::And) else {
         return Some(left);
@@ -83,7 +84,7 @@ fn all_more(left: Chosen, tokens: &[Token], labels: &Labels) -> Option<Chosen>
 // A tight action formula.
 #[cycle(braces)]
 fn tight(tokens: &[Token], at: usize, labels: &Labels) -> Option<Chosen>
-    ensures { Chooses (listed labels.now.table labels.now.count) tokens.now at Tight result }
+    ensures { Chooses (listed labels.now) tokens.now at Tight result }
 {
     let Some(token) = peek(tokens, at) else {
         return None;
@@ -117,7 +118,7 @@ fn tight(tokens: &[Token], at: usize, labels: &Labels) -> Option<Chosen>
 // What follows NOT.
 #[cycle(braces)]
 fn negated(tokens: &[Token], at: usize, labels: &Labels) -> Option<Chosen>
-    ensures { ChoosesBy (listed labels.now.table labels.now.count) tokens.now at 3 (λ n. then (read action_rules n Tight (unread tokens.now at)) (λ c rest. Some (complement c, rest))) result }
+    ensures { ChoosesBy (listed labels.now) tokens.now at 3 (λ n. then (read action_rules n Tight (unread tokens.now at)) (λ c rest. Some (complement c, rest))) result }
 {
     let inner = tight(tokens, at, labels)?;
     Some(Chosen {
@@ -129,7 +130,7 @@ fn negated(tokens: &[Token], at: usize, labels: &Labels) -> Option<Chosen>
 // What follows a sign that opens parentheses.
 #[cycle(braces)]
 fn grouped(sign: Sign, tokens: &[Token], at: usize, labels: &Labels) -> Option<Chosen>
-    ensures { ChoosesBy (listed labels.now.table labels.now.count) tokens.now at 3 (λ n. in_group sign (read action_rules n OrLevel (unread tokens.now at))) result }
+    ensures { ChoosesBy (listed labels.now) tokens.now at 3 (λ n. in_group sign (read action_rules n OrLevel (unread tokens.now at))) result }
 {
     if !is_open(sign) {
         return None;
@@ -144,7 +145,7 @@ fn grouped(sign: Sign, tokens: &[Token], at: usize, labels: &Labels) -> Option<C
 
 // The action formula in braces, after the first of them.
 pub(crate) fn braced(tokens: &[Token], at: usize, labels: &Labels) -> Option<Chosen>
-    ensures { ChoosesBy (listed labels.now.table labels.now.count) tokens.now at 0 (λ n. in_braces (unread tokens.now at)) result }
+    ensures { ChoosesBy (listed labels.now) tokens.now at 0 (λ n. in_braces (unread tokens.now at)) result }
 {
     let inner = any_of(tokens, at, labels)?;
     let end = after(tokens, inner.end, Sign::BraceClose)?;

@@ -1,5 +1,5 @@
 ghost use Rattle.std.specs.Prelude.{◌≡◌, Bool, true, false, List, map, length, Ok, Err, MatchResult};
-ghost use Rattle.base.specs.Listing.{listed};
+ghost use Rattle.base.specs.Labels.{listed};
 ghost use Rattle.formula.specs.Entering.{is_listed, all_listed, verdict_on, Whole, Checked, Planned, Refused, Entered};
 ghost use Rattle.formula.specs.Laying.{drafted, shapes};
 ghost use Rattle.formula.specs.Reading.{tree_of};
@@ -17,7 +17,7 @@ use base::refusal::Refusal;
 pub const MOST_BYTES: usize = 1024;
 
 fn is_listed(token: Token, labels: &Labels) -> bool
-    ensures { result ≡ is_listed (listed labels.now.table labels.now.count) (tok token) }
+    ensures { result ≡ is_listed (listed labels.now) (tok token) }
 {
     match token {
         Token::Mark(_) => true,
@@ -27,7 +27,7 @@ fn is_listed(token: Token, labels: &Labels) -> bool
 
 // Whether the list has every name among the tokens.
 fn all_listed(tokens: &[Token], labels: &Labels) -> bool
-    ensures { result ≡ all_listed (listed labels.now.table labels.now.count) (map tok tokens.now) }
+    ensures { result ≡ all_listed (listed labels.now) (map tok tokens.now) }
 {
     for i in 0..tokens.len() {
         if !is_listed(tokens[i], labels) {
@@ -39,7 +39,7 @@ fn all_listed(tokens: &[Token], labels: &Labels) -> bool
 
 // Writes the formula that the tokens are as a whole, and says its number.
 fn whole(tokens: &[Token], labels: &Labels, draft: &mut Draft) -> Option<usize>
-    ensures { Whole (listed labels.now.table labels.now.count) (map tok tokens.now) (drafted draft.old) (drafted draft.new) result }
+    ensures { Whole (listed labels.now) (map tok tokens.now) (drafted draft.old) (drafted draft.new) result }
 {
     let built = any_of(tokens, 0, labels, draft)?;
     if built.end < tokens.len() {
@@ -50,7 +50,7 @@ fn whole(tokens: &[Token], labels: &Labels, draft: &mut Draft) -> Option<usize>
 
 // Checks the tokens of a text over a copy of the nodes.
 fn check_tokens(tokens: &[Token], labels: &Labels, nodes: &Nodes) -> Result<Entry, Refusal>
-    ensures { MatchResult result (λ e. Checked (listed labels.now.table labels.now.count) (map tok tokens.now) (shapes nodes.now.table nodes.now.count) e) (λ e. verdict_on (listed labels.now.table labels.now.count) (length (shapes nodes.now.table nodes.now.count)) (map tok tokens.now) (tree_of (map tok tokens.now)) ≡ Err e) }
+    ensures { MatchResult result (λ e. Checked (listed labels.now) (map tok tokens.now) (shapes nodes.now.table nodes.now.count) e) (λ e. verdict_on (listed labels.now) (length (shapes nodes.now.table nodes.now.count)) (map tok tokens.now) (tree_of (map tok tokens.now)) ≡ Err e) }
 {
     let mut draft = Draft::over(nodes);
     let Some(root) = whole(tokens, labels, &mut draft) else {
@@ -70,7 +70,7 @@ fn check_tokens(tokens: &[Token], labels: &Labels, nodes: &Nodes) -> Result<Entr
 
 // Checks a text, and alters nothing.
 fn check(text: &[u8], labels: &Labels, nodes: &Nodes) -> Result<Entry, Refusal>
-    ensures { MatchResult result (λ e. Planned (listed labels.now.table labels.now.count) text.now (shapes nodes.now.table nodes.now.count) e) (λ e. Refused (listed labels.now.table labels.now.count) text.now (length (shapes nodes.now.table nodes.now.count)) e) }
+    ensures { MatchResult result (λ e. Planned (listed labels.now) text.now (shapes nodes.now.table nodes.now.count) e) (λ e. Refused (listed labels.now) text.now (length (shapes nodes.now.table nodes.now.count)) e) }
 {
     if text.len() < 1 || text.len() > MOST_BYTES {
         return Err(Refusal::Grammar);
@@ -84,7 +84,7 @@ fn check(text: &[u8], labels: &Labels, nodes: &Nodes) -> Result<Entry, Refusal>
 
 // Enters a text: writes its nodes past those before, and says the number of its formula.
 pub fn enter(nodes: &mut Nodes, text: &[u8], labels: &Labels) -> Result<usize, Refusal>
-    ensures { Entered text.now (listed labels.now.table labels.now.count) nodes.old nodes.new result }
+    ensures { Entered text.now (listed labels.now) nodes.old nodes.new result }
 {
     let entry = check(text, labels, nodes)?;
     *nodes = entry.nodes;

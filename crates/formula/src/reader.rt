@@ -1,5 +1,5 @@
 ghost use Rattle.std.specs.Prelude.{◌≡◌, ℕ, ◌+◌, ◌<◌, ◌≤◌, Bool, true, false, List, length, Some, None};
-ghost use Rattle.base.specs.Listing.{listed};
+ghost use Rattle.base.specs.Labels.{listed};
 ghost use Rattle.formula.specs.Building.{Laid, BuildsBy, Builds, LaidPart, BuildsPart, stage_of};
 ghost use Rattle.formula.specs.Choosing.{IsSet};
 ghost use Rattle.formula.specs.Laying.{DraftState, drafted, top, lay};
@@ -26,7 +26,7 @@ pub(crate) fn any_of(
     labels: &Labels,
     draft: &mut Draft,
 ) -> Option<Built>
-    ensures { Builds (listed labels.now.table labels.now.count) tokens.now at (drafted draft.old) (drafted draft.new) OrLevel result }
+    ensures { Builds (listed labels.now) tokens.now at (drafted draft.old) (drafted draft.new) OrLevel result }
 {
     let first = all_of(tokens, at, labels, draft)?;
     any_more(first, tokens, labels, draft)
@@ -35,7 +35,7 @@ pub(crate) fn any_of(
 // What goes on after the beginning of such a chain.
 #[cycle(formulas)]
 fn any_more(left: Built, tokens: &[Token], labels: &Labels, draft: &mut Draft) -> Option<Built>
-    ensures { (t : Tree) (before : DraftState) → Laid (listed labels.now.table labels.now.count) before (drafted draft.old) t left → Builds (listed labels.now.table labels.now.count) tokens.now left.end before (drafted draft.new) (OrMore t) result }
+    ensures { (t : Tree) (before : DraftState) → Laid (listed labels.now) before (drafted draft.old) t left → Builds (listed labels.now) tokens.now left.end before (drafted draft.new) (OrMore t) result }
 {
     let Some(next) = after(tokens, left.end, Sign::Or) else {
         return Some(left);
@@ -52,7 +52,7 @@ fn any_more(left: Built, tokens: &[Token], labels: &Labels, draft: &mut Draft) -
 // A chain of AND.
 #[cycle(formulas)]
 fn all_of(tokens: &[Token], at: usize, labels: &Labels, draft: &mut Draft) -> Option<Built>
-    ensures { Builds (listed labels.now.table labels.now.count) tokens.now at (drafted draft.old) (drafted draft.new) AndLevel result }
+    ensures { Builds (listed labels.now) tokens.now at (drafted draft.old) (drafted draft.new) AndLevel result }
 {
     let first = tight(tokens, at, labels, draft)?;
     all_more(first, tokens, labels, draft)
@@ -61,7 +61,7 @@ fn all_of(tokens: &[Token], at: usize, labels: &Labels, draft: &mut Draft) -> Op
 // What goes on after the beginning of such a chain.
 #[cycle(formulas)]
 fn all_more(left: Built, tokens: &[Token], labels: &Labels, draft: &mut Draft) -> Option<Built>
-    ensures { (t : Tree) (before : DraftState) → Laid (listed labels.now.table labels.now.count) before (drafted draft.old) t left → Builds (listed labels.now.table labels.now.count) tokens.now left.end before (drafted draft.new) (AndMore t) result }
+    ensures { (t : Tree) (before : DraftState) → Laid (listed labels.now) before (drafted draft.old) t left → Builds (listed labels.now) tokens.now left.end before (drafted draft.new) (AndMore t) result }
 {
     let Some(next) = after(tokens, left.end, Sign::And) else {
         return Some(left);
@@ -78,7 +78,7 @@ fn all_more(left: Built, tokens: &[Token], labels: &Labels, draft: &mut Draft) -
 // A tight formula.
 #[cycle(formulas)]
 fn tight(tokens: &[Token], at: usize, labels: &Labels, draft: &mut Draft) -> Option<Built>
-    ensures { Builds (listed labels.now.table labels.now.count) tokens.now at (drafted draft.old) (drafted draft.new) Tight result }
+    ensures { Builds (listed labels.now) tokens.now at (drafted draft.old) (drafted draft.new) Tight result }
 {
     let Some(mark) = mark_at(tokens, at) else {
         return None;
@@ -104,7 +104,7 @@ fn tight(tokens: &[Token], at: usize, labels: &Labels, draft: &mut Draft) -> Opt
 // What follows NOT.
 #[cycle(formulas)]
 fn negated(tokens: &[Token], at: usize, labels: &Labels, draft: &mut Draft) -> Option<Built>
-    ensures { BuildsBy (listed labels.now.table labels.now.count) tokens.now at (drafted draft.old) (drafted draft.new) 3 (λ n. then (read formula_rules n Tight (unread tokens.now at)) (λ t rest. Some (NOT t, rest))) result }
+    ensures { BuildsBy (listed labels.now) tokens.now at (drafted draft.old) (drafted draft.new) 3 (λ n. then (read formula_rules n Tight (unread tokens.now at)) (λ t rest. Some (NOT t, rest))) result }
 {
     let inner = tight(tokens, at, labels, draft)?;
     Some(Built {
@@ -122,7 +122,7 @@ fn grouped(
     labels: &Labels,
     draft: &mut Draft,
 ) -> Option<Built>
-    ensures { BuildsBy (listed labels.now.table labels.now.count) tokens.now at (drafted draft.old) (drafted draft.new) 3 (λ n. in_group sign (read formula_rules n OrLevel (unread tokens.now at))) result }
+    ensures { BuildsBy (listed labels.now) tokens.now at (drafted draft.old) (drafted draft.new) 3 (λ n. in_group sign (read formula_rules n OrLevel (unread tokens.now at))) result }
 {
     if !is_open(sign) {
         return None;
@@ -144,7 +144,7 @@ fn one_part(
     labels: &Labels,
     draft: &mut Draft,
 ) -> Option<Built>
-    ensures { BuildsBy (listed labels.now.table labels.now.count) tokens.now at (drafted draft.old) (drafted draft.new) 3 (λ n. then (part (read formula_rules n Tight) (unread tokens.now at)) (λ p rest. Some (short operator p.0 p.1, rest))) result }
+    ensures { BuildsBy (listed labels.now) tokens.now at (drafted draft.old) (drafted draft.new) 3 (λ n. then (part (read formula_rules n Tight) (unread tokens.now at)) (λ p rest. Some (short operator p.0 p.1, rest))) result }
 {
     let inner = part_at(Extent::Tight, tokens, at, labels, draft)?;
     let node = Node::Short {
@@ -167,7 +167,7 @@ fn bracketed(
     labels: &Labels,
     draft: &mut Draft,
 ) -> Option<Built>
-    ensures { BuildsBy (listed labels.now.table labels.now.count) tokens.now at (drafted draft.old) (drafted draft.new) 3 (λ n. if_there (past_sign BracketOpen (unread tokens.now at)) (two_parts (read formula_rules n OrLevel) quantifier) None) result }
+    ensures { BuildsBy (listed labels.now) tokens.now at (drafted draft.old) (drafted draft.new) 3 (λ n. if_there (past_sign BracketOpen (unread tokens.now at)) (two_parts (read formula_rules n OrLevel) quantifier) None) result }
 {
     let inside = after(tokens, at, Sign::BracketOpen)?;
     both_parts(quantifier, tokens, inside, labels, draft)
@@ -182,7 +182,7 @@ fn both_parts(
     labels: &Labels,
     draft: &mut Draft,
 ) -> Option<Built>
-    ensures { BuildsBy (listed labels.now.table labels.now.count) tokens.now at (drafted draft.old) (drafted draft.new) 3 (λ n. two_parts (read formula_rules n OrLevel) quantifier (unread tokens.now at)) result }
+    ensures { BuildsBy (listed labels.now) tokens.now at (drafted draft.old) (drafted draft.new) 3 (λ n. two_parts (read formula_rules n OrLevel) quantifier (unread tokens.now at)) result }
 {
     let first = part_at(Extent::Whole, tokens, at, labels, draft)?;
     let link = link_at(tokens, first.end)?;
@@ -200,7 +200,7 @@ fn other_part(
     draft: &mut Draft,
 ) -> Option<Built>
     requires { first.end < length tokens.now }
-    ensures { (p : Acts × Tree) (before : DraftState) → LaidPart (listed labels.now.table labels.now.count) before (drafted draft.old) p first → BuildsBy (listed labels.now.table labels.now.count) tokens.now (first.end + 1) before (drafted draft.new) 3 (λ n. second_part (read formula_rules n OrLevel) quantifier p link (unread tokens.now (first.end + 1))) result }
+    ensures { (p : Acts × Tree) (before : DraftState) → LaidPart (listed labels.now) before (drafted draft.old) p first → BuildsBy (listed labels.now) tokens.now (first.end + 1) before (drafted draft.new) 3 (λ n. second_part (read formula_rules n OrLevel) quantifier p link (unread tokens.now (first.end + 1))) result }
 {
     let second = part_at(Extent::Whole, tokens, first.end + 1, labels, draft)?;
     let end = after(tokens, second.end, Sign::BracketClose)?;
@@ -227,7 +227,7 @@ fn part_at(
     labels: &Labels,
     draft: &mut Draft,
 ) -> Option<BuiltPart>
-    ensures { BuildsPart (listed labels.now.table labels.now.count) tokens.now at (drafted draft.old) (drafted draft.new) (λ n. part (read formula_rules n (stage_of extent)) (unread tokens.now at)) result }
+    ensures { BuildsPart (listed labels.now) tokens.now at (drafted draft.old) (drafted draft.new) (λ n. part (read formula_rules n (stage_of extent)) (unread tokens.now at)) result }
 {
     let Some(inside) = after(tokens, at, Sign::BraceOpen) else {
         return body(ActionSet::all(), extent, tokens, at, labels, draft);
@@ -245,7 +245,7 @@ fn past_braces(
     labels: &Labels,
     draft: &mut Draft,
 ) -> Option<BuiltPart>
-    ensures { (c : Acts) → IsSet (listed labels.now.table labels.now.count) c braces.actions → BuildsPart (listed labels.now.table labels.now.count) tokens.now braces.end (drafted draft.old) (drafted draft.new) (λ n. after_braces (read formula_rules n (stage_of extent)) c (unread tokens.now braces.end)) result }
+    ensures { (c : Acts) → IsSet (listed labels.now) c braces.actions → BuildsPart (listed labels.now) tokens.now braces.end (drafted draft.old) (drafted draft.new) (λ n. after_braces (read formula_rules n (stage_of extent)) c (unread tokens.now braces.end)) result }
 {
     if can_begin_at(tokens, braces.end) {
         return body(braces.actions, extent, tokens, braces.end, labels, draft);
@@ -267,7 +267,7 @@ fn body(
     labels: &Labels,
     draft: &mut Draft,
 ) -> Option<BuiltPart>
-    ensures { (c : Acts) → IsSet (listed labels.now.table labels.now.count) c actions → BuildsPart (listed labels.now.table labels.now.count) tokens.now at (drafted draft.old) (drafted draft.new) (λ n. with_formula (read formula_rules n (stage_of extent)) c (unread tokens.now at)) result }
+    ensures { (c : Acts) → IsSet (listed labels.now) c actions → BuildsPart (listed labels.now) tokens.now at (drafted draft.old) (drafted draft.new) (λ n. with_formula (read formula_rules n (stage_of extent)) c (unread tokens.now at)) result }
 {
     let inner = formula_at(extent, tokens, at, labels, draft)?;
     Some(BuiltPart {
@@ -286,7 +286,7 @@ fn formula_at(
     labels: &Labels,
     draft: &mut Draft,
 ) -> Option<Built>
-    ensures { Builds (listed labels.now.table labels.now.count) tokens.now at (drafted draft.old) (drafted draft.new) (stage_of extent) result }
+    ensures { Builds (listed labels.now) tokens.now at (drafted draft.old) (drafted draft.new) (stage_of extent) result }
 {
     match extent {
         Extent::Tight => tight(tokens, at, labels, draft),

@@ -1,5 +1,5 @@
 use Rattle.std.proofs.Common.{◌≡◌, ◌+◌, ◌<◌, Some, sym, ap, ◌∙◌, arith}
-use Rattle.base.specs.Listing.{listed}
+use Rattle.base.specs.Labels.{listed}
 use Rattle.aut.specs.Writing.{slot_moves, moves_at, all_tallied}
 use Rattle.aut.proofs.Moves.{moves_at-more, few-at, text_at, tally_append, tally_count, tally_length}
 use Rattle.aut.proofs.tallying.tally_state.Goals as goal
@@ -7,7 +7,7 @@ use Rattle.aut.proofs.tallying.tally_state.Goals.{in-Some, in_default}
 
 pub note-requires : goal.note-requires
 note-requires g c =
-    let M = g.M.Model.meaning c.args.model.now in let l = c.args.labels.now in let names = listed l.table l.count in let v = c.args.tally.now in
+    let M = g.M.Model.meaning c.args.model.now in let l = c.args.labels.now in let names = listed l in let v = c.args.tally.now in
     let s = c.args.state in let k = c.loop-k.k in let ms = moves_at M s k in
     let state : c.args.state < 65536 = c.requires.0 in
     let some = c.requires.1.0 in let long = c.requires.1.1 in
@@ -20,7 +20,7 @@ note-requires g c =
 
 pub loop-k-preserved : goal.loop-k-preserved
 loop-k-preserved g c =
-    let M = g.M.Model.meaning c.args.model.now in let l = c.args.labels.now in let names = listed l.table l.count in let s = c.args.state in let k = c.loop-k.k in
+    let M = g.M.Model.meaning c.args.model.now in let l = c.args.labels.now in let names = listed l in let s = c.args.state in let k = c.loop-k.k in
     let more : all_tallied names c.args.tally.now (moves_at M s (k + 1)) ≡ all_tallied names (all_tallied names c.args.tally.now (moves_at M s k)) (slot_moves s (M.slot s k)) =
     ap (all_tallied names c.args.tally.now) (moves_at-more M s k) ∙ tally_append names c.args.tally.now (moves_at M s k) (slot_moves s (M.slot s k)) in
     elim c.match-slot.branch [
@@ -34,4 +34,4 @@ pub returns : goal.returns
 returns g c =
     let M = g.M.Model.meaning c.args.model.now in let l = c.args.labels.now in
     let e : c.loop-k.k ≡ c.slots-k-end.result = omega (arith, c.loop-k.auto.k-end, c.loop-k-test.false) in
-    c.loop-k.invariant ∙ ap (λ x. all_tallied (listed l.table l.count) c.args.tally.now (moves_at M c.args.state x)) (e ∙ c.slots-k-end.ensures)
+    c.loop-k.invariant ∙ ap (λ x. all_tallied (listed l) c.args.tally.now (moves_at M c.args.state x)) (e ∙ c.slots-k-end.ensures)

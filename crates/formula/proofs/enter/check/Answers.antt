@@ -2,7 +2,7 @@ use Rattle.std.proofs.Common.{◌≡◌, ◌-◌, true, map, length, take, Some,
 use Rattle.std.proofs.lemmas.Result.{MatchResult-weaker}
 use Rattle.std.proofs.lemmas.Bool.{cond-true}
 use Rattle.std.proofs.lemmas.Bool.Decides.{nat_tests}
-use Rattle.base.specs.Listing.{listed}
+use Rattle.base.specs.Labels.{listed}
 use Rattle.formula.specs.Entering.{fits, verdict_at}
 use Rattle.formula.specs.Laying.{shapes}
 use Rattle.formula.specs.Tokens.{tok, tokens_of}
@@ -16,4 +16,4 @@ returns-in-Some c =
     let lexed : tokens_of c.args.text.now ≡ Some (map tok (take (c.in-Some.count - 0) c.lex.new.tokens)) = c.in-Some.ensures.0 ∙ ap (λ k. Some (map tok (take k room))) (sym e) in
     MatchResult-weaker c.check_tokens.result c.check_tokens.ensures
     (λ x k. record { right_size = right; tokens = map tok (take (c.in-Some.count - 0) room); lexed = lexed; checked = k })
-    (λ x k. record { why = cond-true _ _ _ right ∙ ap (verdict_at (listed l.table l.count) (length (shapes n.table n.count))) lexed ∙ k })
+    (λ x k. record { why = cond-true _ _ _ right ∙ ap (verdict_at (listed l) (length (shapes n.table n.count))) lexed ∙ k })

@@ -1,6 +1,6 @@
 use Rattle.std.proofs.Common.{◌≤◌, map, length, Some, None, sym, ap, ◌∙◌, arith}
 use Rattle.std.proofs.lemmas.Bool.{cond-true, cond-false}
-use Rattle.base.specs.Listing.{listed}
+use Rattle.base.specs.Labels.{listed}
 use Rattle.formula.specs.Entering.{verdict_on}
 use Rattle.formula.specs.Laying.{DraftState, shapes, top, lay}
 use Rattle.formula.specs.Tokens.{tok}
@@ -10,7 +10,7 @@ use Rattle.formula.proofs.enter.check_tokens.Goals as goal
 
 pub returns-then-draft : goal.returns-then-draft
 returns-then-draft c =
-    let n = c.args.nodes.now in let l = c.args.labels.now in let names = listed l.table l.count in let xs = shapes n.table n.count in
+    let n = c.args.nodes.now in let l = c.args.labels.now in let names = listed l in let xs = shapes n.table n.count in
     let ts = map tok c.args.tokens.now in let w = c.in-Some.ensures in let d = c.whole.new.draft in
     let few : length (shapes c.args.nodes.now.table c.args.nodes.now.count) ≤ 48 = omega (arith, length-shapes n.table n.count n.rows n.few, n.few) in
     ap (verdict_on names (length xs) ts) w.1
@@ -19,7 +19,7 @@ returns-then-draft c =
 
 pub returns : goal.returns
 returns c =
-    let n = c.args.nodes.now in let l = c.args.labels.now in let names = listed l.table l.count in let xs = shapes n.table n.count in
+    let n = c.args.nodes.now in let l = c.args.labels.now in let names = listed l in let xs = shapes n.table n.count in
     let ts = map tok c.args.tokens.now in let w = c.in-Some.ensures in let d = c.whole.new.draft in
     let few : length (shapes c.args.nodes.now.table c.args.nodes.now.count) ≤ 48 = omega (arith, length-shapes n.table n.count n.rows n.few, n.few) in
     let is = cond-false {A = DraftState} d.full None (Some (shapes d.nodes.table d.nodes.count)) c.if-draft.false in

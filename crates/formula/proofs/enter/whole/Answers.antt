@@ -1,5 +1,5 @@
 use Rattle.std.proofs.Common.{sym, subst, arith}
-use Rattle.base.specs.Listing.{listed}
+use Rattle.base.specs.Labels.{listed}
 use Rattle.formula.specs.Entering.{Whole}
 use Rattle.formula.specs.Laying.{drafted}
 use Rattle.formula.specs.Places.{unread}
@@ -10,7 +10,7 @@ use Rattle.formula.proofs.enter.whole.Goals as goal
 pub returns-in_err-built : goal.returns-in_err-built
 returns-in_err-built c =
     let s = c.args.tokens.now in let l = c.args.labels.now in
-    subst (Whole (listed l.table l.count) (unread s 0) (drafted c.args.draft.now) (drafted c.any_of.new.draft)) (sym c.from_residual.ensures)
+    subst (Whole (listed l) (unread s 0) (drafted c.args.draft.now) (drafted c.any_of.new.draft)) (sym c.from_residual.ensures)
     (tree-none (unread s 0) c.in_err-built.ensures)
 
 pub returns-then-built-tokens : goal.returns-then-built-tokens

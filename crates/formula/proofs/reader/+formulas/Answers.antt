@@ -1,5 +1,5 @@
 use Rattle.std.proofs.Common.{◌+◌, ◌∷◌, Some, None, refl, ap, ◌∙◌, arith}
-use Rattle.base.specs.Listing.{listed}
+use Rattle.base.specs.Labels.{listed}
 use Rattle.formula.specs.declared.mark.Mark.TheVariants.{True, False, Not, Short, Path, Sign as signed}
 use Rattle.formula.specs.Tokens.{mark}
 use Rattle.formula.specs.Laying.{drafted, not_node, and_node, or_node}
@@ -18,16 +18,16 @@ all_more-returns-in_default t c = λ u before h. (u, and_stop formula_rules u _ 
 pub all_more-returns-in_err-right : goal.all_more-returns-in_err-right
 all_more-returns-in_err-right t c = λ u before h.
     let s = c.args.tokens.now in let l = c.args.labels.now in
-    buildings.none-at (listed l.table l.count) s before _ c.args.left.end 1 _ c.from_residual.result c.from_residual.ensures
+    buildings.none-at (listed l) s before _ c.args.left.end 1 _ c.from_residual.result c.from_residual.ensures
     (and-more-none formula_rules u (unread s c.args.left.end) (unread s c.in-Some.next) c.in-Some.ensures.0 c.in_err-right.ensures)
 
 pub all_more-returns : goal.all_more-returns
 all_more-returns t c = λ u before h.
     let s = c.args.tokens.now in let l = c.args.labels.now in let d = c.in_ok-right.ensures in
-    buildings.and-next (listed l.table l.count) s before (drafted c.all_more.new.draft) u d.0 c.args.left.end c.in-Some.next c.in_ok-right.right.end
+    buildings.and-next (listed l) s before (drafted c.all_more.new.draft) u d.0 c.args.left.end c.in-Some.next c.in_ok-right.right.end
     c.in-Some.ensures.0 c.in-Some.ensures.1 d.1 d.3 c.all_more.result
     (c.all_more.ensures (AND u d.0) before (
-      layings.two_below (listed l.table l.count) and_node u d.0 before (drafted c.args.draft.now) _ (drafted c.put-root.new.self)
+      layings.two_below (listed l) and_node u d.0 before (drafted c.args.draft.now) _ (drafted c.put-root.new.self)
           c.args.left.root c.in_ok-right.right.root h.0 h.1 d.2.0 d.2.1 c.put-root.ensures.after,
       c.put-root.ensures.number,
     ))
@@ -35,13 +35,13 @@ all_more-returns t c = λ u before h.
 pub all_of-returns-in_err-first : goal.all_of-returns-in_err-first
 all_of-returns-in_err-first t c =
     let s = c.args.tokens.now in let l = c.args.labels.now in
-    buildings.none-at (listed l.table l.count) s _ _ c.args.at 2 _ c.from_residual.result c.from_residual.ensures
+    buildings.none-at (listed l) s _ _ c.args.at 2 _ c.from_residual.result c.from_residual.ensures
     (and_none formula_rules (unread s c.args.at) c.in_err-first.ensures)
 
 pub all_of-returns : goal.all_of-returns
 all_of-returns t c =
     let s = c.args.tokens.now in let l = c.args.labels.now in let d = c.in_ok-first.ensures in
-    buildings.and_first (listed l.table l.count) s (drafted c.args.draft.now) (drafted c.all_more.new.draft) d.0 c.args.at c.in_ok-first.first.end d.1 d.3
+    buildings.and_first (listed l) s (drafted c.args.draft.now) (drafted c.all_more.new.draft) d.0 c.args.at c.in_ok-first.first.end d.1 d.3
     c.all_more.result (c.all_more.ensures d.0 (drafted c.args.draft.now) d.2)
 
 pub any_more-returns-in_default : goal.any_more-returns-in_default
@@ -50,16 +50,16 @@ any_more-returns-in_default t c = λ u before h. (u, or_stop formula_rules u _ c
 pub any_more-returns-in_err-right : goal.any_more-returns-in_err-right
 any_more-returns-in_err-right t c = λ u before h.
     let s = c.args.tokens.now in let l = c.args.labels.now in
-    buildings.none-at (listed l.table l.count) s before _ c.args.left.end 1 _ c.from_residual.result c.from_residual.ensures
+    buildings.none-at (listed l) s before _ c.args.left.end 1 _ c.from_residual.result c.from_residual.ensures
     (or_more-none formula_rules u (unread s c.args.left.end) (unread s c.in-Some.next) c.in-Some.ensures.0 c.in_err-right.ensures)
 
 pub any_more-returns : goal.any_more-returns
 any_more-returns t c = λ u before h.
     let s = c.args.tokens.now in let l = c.args.labels.now in let d = c.in_ok-right.ensures in
-    buildings.or_next (listed l.table l.count) s before (drafted c.any_more.new.draft) u d.0 c.args.left.end c.in-Some.next c.in_ok-right.right.end
+    buildings.or_next (listed l) s before (drafted c.any_more.new.draft) u d.0 c.args.left.end c.in-Some.next c.in_ok-right.right.end
     c.in-Some.ensures.0 c.in-Some.ensures.1 d.1 d.3 c.any_more.result
     (c.any_more.ensures (OR u d.0) before (
-      layings.two_below (listed l.table l.count) or_node u d.0 before (drafted c.args.draft.now) _ (drafted c.put-root.new.self)
+      layings.two_below (listed l) or_node u d.0 before (drafted c.args.draft.now) _ (drafted c.put-root.new.self)
           c.args.left.root c.in_ok-right.right.root h.0 h.1 d.2.0 d.2.1 c.put-root.ensures.after,
       c.put-root.ensures.number,
     ))
@@ -67,13 +67,13 @@ any_more-returns t c = λ u before h.
 pub any_of-returns-in_err-first : goal.any_of-returns-in_err-first
 any_of-returns-in_err-first t c =
     let s = c.args.tokens.now in let l = c.args.labels.now in
-    buildings.none-at (listed l.table l.count) s _ _ c.args.at 3 _ c.from_residual.result c.from_residual.ensures
+    buildings.none-at (listed l) s _ _ c.args.at 3 _ c.from_residual.result c.from_residual.ensures
     (or_none formula_rules (unread s c.args.at) c.in_err-first.ensures)
 
 pub any_of-returns : goal.any_of-returns
 any_of-returns t c =
     let s = c.args.tokens.now in let l = c.args.labels.now in let d = c.in_ok-first.ensures in
-    buildings.or_first (listed l.table l.count) s (drafted c.args.draft.now) (drafted c.any_more.new.draft) d.0 c.args.at c.in_ok-first.first.end d.1 d.3
+    buildings.or_first (listed l) s (drafted c.args.draft.now) (drafted c.any_more.new.draft) d.0 c.args.at c.in_ok-first.first.end d.1 d.3
     c.any_more.result (c.any_more.ensures d.0 (drafted c.args.draft.now) d.2)
 
 pub body-returns : goal.body-returns
@@ -88,7 +88,7 @@ body-returns t c = λ k h.
 pub both_parts-returns : goal.both_parts-returns
 both_parts-returns t c =
     let s = c.args.tokens.now in let l = c.args.labels.now in let d = c.in_ok-first.ensures in let f = c.in_ok-first.first in
-    buildings.linked_parts (listed l.table l.count) s (drafted c.args.draft.now) (drafted c.other_part.new.draft) c.args.quantifier c.in_ok-link.link d.0
+    buildings.linked_parts (listed l) s (drafted c.args.draft.now) (drafted c.other_part.new.draft) c.args.quantifier c.in_ok-link.link d.0
     c.args.at f.end c.other_part.result d.1 d.3 c.in_ok-link.ensures.0 (c.other_part.ensures d.0 (drafted c.args.draft.now) d.2)
 
 pub other_part-returns : goal.other_part-returns
@@ -98,7 +98,7 @@ other_part-returns t c = λ p before h.
       path c.args.quantifier c.args.link p.0 p.1 u.0 u.1,
       buildings.closed_parts s c.args.quantifier c.args.link p u (f.end + 1) g.end c.in_ok-end.end d.1 e.0,
       (
-        layings.laid-path (listed l.table l.count) c.args.quantifier c.args.link p.0 u.0 p.1 u.1 f.actions g.actions before (drafted c.args.draft.now)
+        layings.laid-path (listed l) c.args.quantifier c.args.link p.0 u.0 p.1 u.1 f.actions g.actions before (drafted c.args.draft.now)
             (drafted c.part_at.new.draft) (drafted c.put.new.self) f.root g.root h.2 d.2.2 h.0 h.1 d.2.0 d.2.1 c.put.ensures.after,
         c.put.ensures.number,
       ),
@@ -111,7 +111,7 @@ one_part-returns t c =
       short c.args.operator u.0 u.1,
       (λ n h. ap (λ g. then g (λ p rest. Some (short c.args.operator p.0 p.1, rest))) (d.1 n h)),
       (
-        layings.laid-short (listed l.table l.count) c.args.operator u.0 u.1 y.actions (drafted c.args.draft.now) (drafted c.part_at.new.draft)
+        layings.laid-short (listed l) c.args.operator u.0 u.1 y.actions (drafted c.args.draft.now) (drafted c.part_at.new.draft)
             (drafted c.put.new.self) y.root d.2.2 d.2.0 d.2.1 c.put.ensures.after,
         c.put.ensures.number,
       ),
@@ -121,26 +121,26 @@ one_part-returns t c =
 pub part_at-returns-in_default : goal.part_at-returns-in_default
 part_at-returns-in_default t c =
     let s = c.args.tokens.now in let l = c.args.labels.now in
-    buildings.without_braces (listed l.table l.count) s (drafted c.args.draft.now) (drafted c.body.new.draft) c.args.extent c.args.at c.body.result
+    buildings.without_braces (listed l) s (drafted c.args.draft.now) (drafted c.body.new.draft) c.args.extent c.args.at c.body.result
     c.in_default.ensures (c.body.ensures all c.all.ensures)
 
 pub part_at-returns-in_err-braces : goal.part_at-returns-in_err-braces
 part_at-returns-in_err-braces t c =
     let s = c.args.tokens.now in let l = c.args.labels.now in
-    buildings.no_part (listed l.table l.count) s _ _ c.args.at _ c.from_residual.result c.from_residual.ensures
-    (buildings.broken_braces (listed l.table l.count) s (drafted c.args.draft.now) (drafted c.args.draft.now) c.args.extent c.args.at c.in-Some.inside c.in-Some.ensures.0
+    buildings.no_part (listed l) s _ _ c.args.at _ c.from_residual.result c.from_residual.ensures
+    (buildings.broken_braces (listed l) s (drafted c.args.draft.now) (drafted c.args.draft.now) c.args.extent c.args.at c.in-Some.inside c.in-Some.ensures.0
     c.in-Some.ensures.1 c.in_err-braces.ensures)
 
 pub part_at-returns : goal.part_at-returns
 part_at-returns t c =
     let s = c.args.tokens.now in let l = c.args.labels.now in let d = c.in_ok-braces.ensures in
-    buildings.with_braces (listed l.table l.count) s (drafted c.args.draft.now) (drafted c.past_braces.new.draft) c.args.extent c.args.at c.in-Some.inside
+    buildings.with_braces (listed l) s (drafted c.args.draft.now) (drafted c.past_braces.new.draft) c.args.extent c.args.at c.in-Some.inside
     c.in_ok-braces.braces.end d.0 c.past_braces.result c.in-Some.ensures.0 c.in-Some.ensures.1 d.1 d.3 (c.past_braces.ensures d.0 d.2)
 
 pub past_braces-returns-then-can_begin_at : goal.past_braces-returns-then-can_begin_at
 past_braces-returns-then-can_begin_at t c = λ k h.
     let s = c.args.tokens.now in let l = c.args.labels.now in
-    buildings.formula_follows (listed l.table l.count) s (drafted c.args.draft.now) (drafted c.body.new.draft) c.args.extent c.args.braces.end k c.body.result
+    buildings.formula_follows (listed l) s (drafted c.args.draft.now) (drafted c.body.new.draft) c.args.extent c.args.braces.end k c.body.result
     c.if-can_begin_at.ensures (c.body.ensures k h)
 
 pub past_braces-returns : goal.past_braces-returns
@@ -167,7 +167,7 @@ negated-returns t c =
       NOT d.0,
       (λ n h. ap (λ g. then g (λ u rest. Some (NOT u, rest))) (d.1 n (omega arith))),
       (
-        layings.one_below (listed l.table l.count) not_node d.0 (drafted c.args.draft.now) _ (drafted c.put.new.self) y.root d.2.0 d.2.1
+        layings.one_below (listed l) not_node d.0 (drafted c.args.draft.now) _ (drafted c.put.new.self) y.root d.2.0 d.2.1
             c.put.ensures.after,
         c.put.ensures.number,
       ),
@@ -183,42 +183,42 @@ pub tight-returns-in-True : goal.tight-returns-in-True
 tight-returns-in-True t c =
     let s = c.args.tokens.now in let l = c.args.labels.now in
     let e = c.in-Some.ensures.0 ∙ ap (λ m. mark m ∷ unread s (c.args.at + 1)) c.in-True.is in
-    buildings.tight-from (listed l.table l.count) s (drafted c.args.draft.now) (drafted c.put.new.self) (mark True) c.args.at e (Some (record { root = c.put.result; end = c.args.at + 1 }))
+    buildings.tight-from (listed l) s (drafted c.args.draft.now) (drafted c.put.new.self) (mark True) c.args.at e (Some (record { root = c.put.result; end = c.args.at + 1 }))
     (TRUE, (λ n h. refl), (c.put.ensures.after, c.put.ensures.number), omega arith)
 
 pub tight-returns-in-False : goal.tight-returns-in-False
 tight-returns-in-False t c =
     let s = c.args.tokens.now in let l = c.args.labels.now in
     let e = c.in-Some.ensures.0 ∙ ap (λ m. mark m ∷ unread s (c.args.at + 1)) c.in-False.is in
-    buildings.tight-from (listed l.table l.count) s (drafted c.args.draft.now) (drafted c.put-in-False.new.self) (mark False) c.args.at e (Some (record { root = c.put-in-False.result; end = c.args.at + 1 }))
+    buildings.tight-from (listed l) s (drafted c.args.draft.now) (drafted c.put-in-False.new.self) (mark False) c.args.at e (Some (record { root = c.put-in-False.result; end = c.args.at + 1 }))
     (FALSE, (λ n h. refl), (c.put-in-False.ensures.after, c.put-in-False.ensures.number), omega arith)
 
 pub tight-returns-in-Not : goal.tight-returns-in-Not
 tight-returns-in-Not t c =
     let s = c.args.tokens.now in let l = c.args.labels.now in
     let e = c.in-Some.ensures.0 ∙ ap (λ m. mark m ∷ unread s (c.args.at + 1)) c.in-Not.is in
-    buildings.tight-from (listed l.table l.count) s (drafted c.args.draft.now) (drafted c.negated.new.draft) (mark Not) c.args.at e c.negated.result c.negated.ensures
+    buildings.tight-from (listed l) s (drafted c.args.draft.now) (drafted c.negated.new.draft) (mark Not) c.args.at e c.negated.result c.negated.ensures
 
 pub tight-returns-in-Sign : goal.tight-returns-in-Sign
 tight-returns-in-Sign t c =
     let s = c.args.tokens.now in let l = c.args.labels.now in
     let e = c.in-Some.ensures.0 ∙ ap (λ m. mark m ∷ unread s (c.args.at + 1)) c.in-Sign.is in
-    buildings.tight-from (listed l.table l.count) s (drafted c.args.draft.now) (drafted c.grouped.new.draft) (mark (signed c.in-Sign.sign)) c.args.at e c.grouped.result c.grouped.ensures
+    buildings.tight-from (listed l) s (drafted c.args.draft.now) (drafted c.grouped.new.draft) (mark (signed c.in-Sign.sign)) c.args.at e c.grouped.result c.grouped.ensures
 
 pub tight-returns-in-Short : goal.tight-returns-in-Short
 tight-returns-in-Short t c =
     let s = c.args.tokens.now in let l = c.args.labels.now in
     let e = c.in-Some.ensures.0 ∙ ap (λ m. mark m ∷ unread s (c.args.at + 1)) c.in-Short.is in
-    buildings.tight-from (listed l.table l.count) s (drafted c.args.draft.now) (drafted c.one_part.new.draft) (mark (Short c.in-Short.operator)) c.args.at e c.one_part.result c.one_part.ensures
+    buildings.tight-from (listed l) s (drafted c.args.draft.now) (drafted c.one_part.new.draft) (mark (Short c.in-Short.operator)) c.args.at e c.one_part.result c.one_part.ensures
 
 pub tight-returns-in-Path : goal.tight-returns-in-Path
 tight-returns-in-Path t c =
     let s = c.args.tokens.now in let l = c.args.labels.now in
     let e = c.in-Some.ensures.0 ∙ ap (λ m. mark m ∷ unread s (c.args.at + 1)) c.in-Path.is in
-    buildings.tight-from (listed l.table l.count) s (drafted c.args.draft.now) (drafted c.bracketed.new.draft) (mark (Path c.in-Path.quantifier)) c.args.at e c.bracketed.result c.bracketed.ensures
+    buildings.tight-from (listed l) s (drafted c.args.draft.now) (drafted c.bracketed.new.draft) (mark (Path c.in-Path.quantifier)) c.args.at e c.bracketed.result c.bracketed.ensures
 
 pub tight-returns-in-Tau : goal.tight-returns-in-Tau
 tight-returns-in-Tau t c =
     let s = c.args.tokens.now in let l = c.args.labels.now in let m = c.in-Some.mark in
-    buildings.tight-from (listed l.table l.count) s (drafted c.args.draft.now) (drafted c.args.draft.now) (mark m) c.args.at c.in-Some.ensures.0 None
+    buildings.tight-from (listed l) s (drafted c.args.draft.now) (drafted c.args.draft.now) (mark m) c.args.at c.in-Some.ensures.0 None
     (λ n h. buildings.no_formula (read formula_rules n) m (unread s (c.args.at + 1)) c.in-Tau.is)

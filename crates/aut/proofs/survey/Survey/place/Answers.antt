@@ -1,6 +1,7 @@
 use Rattle.std.proofs.Common.{◌≡◌, ℕ, ◌+◌, ◌<◌, false, List, get_or, set, Ok, Err, Result, sym, ap, ◌∙◌}
 use Rattle.base.specs.declared.refusal.Refusal.{Refusal}
-use Rattle.base.specs.Listing.{listed, add_answer, add_names}
+use Rattle.base.specs.Listing.{add_answer, add_names}
+use Rattle.base.specs.Labels.{listed}
 use Rattle.std.proofs.lemmas.Bool.{le-leb, lt-leb, cond-true, cond-false}
 use Rattle.aut.specs.Form.{Transition}
 use Rattle.aut.specs.Views.{line_of}
@@ -30,10 +31,10 @@ returns-then-slots-used c = sym (cond-true _ _ _ (le-leb _ _ c.if-slots-used.tru
 
 pub returns-in-Err : goal.returns-in-Err
 returns-in-Err c =
-    refused c.args.slots (line_of c.args.line.now) (seen c.args.self.now) c.as_bytes.result.now (listed c.add.new.self.table c.add.new.self.count)
+    refused c.args.slots (line_of c.args.line.now) (seen c.args.self.now) c.as_bytes.result.now (listed c.add.new.self)
     c.if-slots-used.false c.as_bytes.ensures c.add.ensures.names c.in-Err.field-0 c.in-Err.ensures.answer
 
 pub returns-in-Ok : goal.returns-in-Ok
 returns-in-Ok c =
-    added c.args.slots (line_of c.args.line.now) (seen c.args.self.now) c.as_bytes.result.now (listed c.add.new.self.table c.add.new.self.count)
+    added c.args.slots (line_of c.args.line.now) (seen c.args.self.now) c.as_bytes.result.now (listed c.add.new.self)
     c.if-slots-used.false c.as_bytes.ensures c.add.ensures.names c.in-Ok.field-0 c.in-Ok.ensures.answer
