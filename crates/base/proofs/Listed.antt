@@ -4,6 +4,8 @@ use Rattle.std.specs.Str.{bytes_eq}
 use Rattle.std.proofs.lemmas.List.{length-map, length-take-le, get_or-map, get_or-take, take_more_set, map_push, take_all, at_drop_more, at_drop_all}
 use Rattle.std.proofs.lemmas.Bool.{both_ways, and_parts, and_from, or_from, or_parts, not-true, not_from_false, cases_Bool, leb-true, cond-true}
 use Rattle.std.proofs.lemmas.Slice.Eq.{bytes_eq-Decides}
+use Rattle.std.specs.List.{position, position_from}
+use Rattle.std.proofs.lemmas.Iterator.Adapters.{position_from-zero}
 use Rattle.base.specs.Names.{is_name, begins_name, name_bytes}
 use Rattle.base.specs.declared.refusal.Refusal.TheVariants.{Crowded}
 use Rattle.base.specs.Listing.{spelled, place, known, all_names, distinct, tau_first, lawful, action_of, answer_at, names_at, add_answer, add_names, first_names}
@@ -22,15 +24,13 @@ module _ (table : List Name) (count : ℕ) (rows : length table ≡ 64) (few : c
   listed-push : (n : Name) → count < 64 → first_names (set table count n) (count + 1) ≡ first_names table count ++ spelled n ∷ []
   listed-push n h = ap (map spelled) (take_more_set table count n (omega arith)) ∙ map_push spelled (take count table) n
 
-  -- the search for the first place, at name i and past the last
-  pub place-step : (name : List ℕ) (i : ℕ) (d : Name) (b : Bool) → i < count → b ≡ bytes_eq (spelled (get_or table i d)) name →
-      place i name (drop i (first_names table count)) ≡ cond b (Some i) (place (i + 1) name (drop (i + 1) (first_names table count)))
-  place-step name i d b h e =
-      at_drop_more (place i name) (first_names table count) i [] (omega (arith, length-listed))
-      ∙ ap (λ x. cond x (Some i) (place (i + 1) name (drop (i + 1) (first_names table count)))) (ap (λ x. bytes_eq x name) (listed_at i d h) ∙ sym e)
+-- the first name that is spelled so, found by its spelling
+at_spelling : (name : List ℕ) (k : ℕ) (ns : List Name) → position_from (λ n. bytes_eq (spelled n) name) k ns ≡ place k name (map spelled ns)
+at_spelling name k [] = refl
+at_spelling name k (n ∷ ns) = ap (cond (bytes_eq (spelled n) name) (Some k)) (at_spelling name (k + 1) ns)
 
-  pub place_end : (name : List ℕ) (i : ℕ) → count ≤ i → place i name (drop i (first_names table count)) ≡ None
-  place_end name i h = at_drop_all (place i name) (first_names table count) i (omega (arith, length-listed))
+pub action_of-spelled : (name : List ℕ) (ns : List Name) → position (λ n. bytes_eq (spelled n) name) ns ≡ action_of name (map spelled ns)
+action_of-spelled name ns = position_from-zero (λ n. bytes_eq (spelled n) name) ns ∙ at_spelling name 0 ns
 
 -- what adding does with a name that is new
 pub new-answer : (name : List ℕ) (xs : List (List ℕ)) → true ≡ is_name name → None ≡ action_of name xs →

@@ -1,5 +1,6 @@
 -- The list of names that a label list holds, and what looking up and adding make of it.
 use Rattle.std.specs.Prelude.{ℕ, ◌+◌, Bool, true, false, cond, not, ◌&&◌, ◌||◌, List, [], ◌∷◌, ◌++◌, map, length, take, Some, None, Ok, Err, codes, Option, Result, nat_le}
+use Rattle.std.specs.List.{list_all, list_any, position_from}
 use Rattle.std.specs.Str.{bytes_eq}
 use Rattle.base.specs.Names.{is_name}
 use Rattle.base.specs.declared.name.Name.{Name}
@@ -16,20 +17,17 @@ first_names table count = map spelled (take count table)
 
 -- the place of the first name that is spelled so, counting from k
 abbrev pub place : ℕ → List ℕ → List (List ℕ) → Option ℕ
-place k name [] = None
-place k name (x ∷ xs) = cond (bytes_eq x name) (Some k) (place (k + 1) name xs)
+place k name names = position_from (λ x. bytes_eq x name) k names
 
 abbrev pub known : List ℕ → List (List ℕ) → Bool
-known name [] = false
-known name (x ∷ xs) = bytes_eq x name || known name xs
+known name names = list_any (λ x. bytes_eq x name) names
 
 -- The action that a name stands for. (Its own definition: a second spelling of the silent action would change only this.)
 abbrev pub action_of : List ℕ → List (List ℕ) → Option ℕ
 action_of name names = place 0 name names
 
 abbrev pub all_names : List (List ℕ) → Bool
-all_names [] = true
-all_names (x ∷ xs) = is_name x && all_names xs
+all_names names = list_all is_name names
 
 abbrev pub distinct : List (List ℕ) → Bool
 distinct [] = true

@@ -9,7 +9,7 @@ pub const MOST_NAMES: usize = 64;
 // A label list: the names of the actions, each at its action's number. Tau is action 0; no name stands twice.
 #[derive(Clone, Copy)]
 pub struct Labels {
-    pub(crate) table: [Name; 64],
+    pub(crate) table: [Name; MOST_NAMES],
     pub(crate) count: usize,
     ghost rows: { length table ≡ 64 },
     ghost few: { count ≤ 64 },

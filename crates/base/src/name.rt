@@ -6,7 +6,7 @@ pub const LONGEST_NAME: usize = 16;
 // The bytes of a name as far as it is read: at most 16.
 #[derive(Clone, Copy)]
 pub struct Name {
-    pub(crate) bytes: [u8; 16],
+    pub(crate) bytes: [u8; LONGEST_NAME],
     pub(crate) len: usize,
     ghost room: { length bytes ≡ 16 },
     ghost fits: { len ≤ 16 },

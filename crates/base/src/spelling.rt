@@ -19,25 +19,17 @@ pub fn is_name_byte(byte: u8) -> bool
     matches!(byte, b'a'..=b'z' | b'0'..=b'9' | b'_')
 }
 
+fn begins_with_letter(text: &[u8]) -> bool
+    ensures { result ≡ begins_name text.now }
+{
+    text.first().is_some_and(|first| is_letter(*first))
+}
+
 // Whether each byte of a text may stand in a name.
 fn has_name_bytes(text: &[u8]) -> bool
     ensures { result ≡ name_bytes text.now }
 {
-    for byte in text {
-        if !is_name_byte(*byte) {
-            return false;
-        }
-    }
-    true
-}
-
-fn begins_with_letter(text: &[u8]) -> bool
-    ensures { result ≡ begins_name text.now }
-{
-    match text.split_first() {
-        Some((first, _)) => is_letter(*first),
-        None => false,
-    }
+    text.iter().all(|byte| is_name_byte(*byte))
 }
 
 // Whether a text is a name.
@@ -62,7 +54,7 @@ impl Name {
         ensures { spelled result ≡ [] }
     {
         Name {
-            bytes: [0; 16],
+            bytes: [0; LONGEST_NAME],
             len: 0,
         }
     }
@@ -84,20 +76,17 @@ impl Name {
     pub fn of(text: &[u8]) -> Name
         ensures { spelled result ≡ take 16 text.now }
     {
-        let mut name = Name::empty();
-        for byte in text {
-            if !name.push(*byte) {
-                return name;
-            }
-        }
-        name
+        let len = text.len().min(LONGEST_NAME);
+        let mut bytes = [0; LONGEST_NAME];
+        bytes[..len].copy_from_slice(&text[..len]);
+        Name { bytes, len }
     }
 
     // The bytes.
     pub fn as_bytes(&self) -> &[u8]
         ensures { result.now ≡ spelled self.now }
     {
-        &self.bytes[0..self.len]
+        &self.bytes[..self.len]
     }
 
     // Whether it is spelled so.
