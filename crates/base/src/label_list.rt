@@ -1,4 +1,4 @@
-ghost use Rattle.std.specs.Prelude.{◌≡◌, ◌≤◌, ◌<◌, List, [], ◌∷◌, length, take, IfSome, codes};
+ghost use Rattle.std.specs.Prelude.{◌≡◌, ◌≤◌, ◌<◌, List, [], ◌∷◌, map, length, IfSome, codes};
 ghost use Rattle.base.specs.Listing.{spelled, action_of, add_answer, add_names};
 ghost use Rattle.base.specs.Labels.{listed};
 ghost use Rattle.std.specs.Option.{option_map};
@@ -29,9 +29,9 @@ impl Labels {
         }
     }
 
-    // The names in use.
-    fn names(&self) -> &[Name]
-        ensures { result.now ≡ take self.now.count self.now.table }
+    // The names, tau first.
+    pub fn names(&self) -> &[Name]
+        ensures { map spelled result.now ≡ listed self.now }
     {
         &self.table[..self.count]
     }
