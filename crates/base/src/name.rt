@@ -4,6 +4,7 @@ ghost use Rattle.std.specs.Prelude.{◌≡◌, ◌≤◌, length};
 pub const LONGEST_NAME: usize = 16;
 
 // The bytes of a name as far as it is read: at most 16.
+// kept: bytes with their count beside them, since a name is Copy and no vector of fixed capacity that this toolchain has is.
 #[derive(Clone, Copy)]
 pub struct Name {
     pub(crate) bytes: [u8; LONGEST_NAME],

@@ -4,8 +4,6 @@ ghost use Rattle.base.specs.Listing.{spelled};
 ghost use Rattle.base.specs.Names.{letter, name_byte, name_bytes, begins_name, is_name};
 
 use crate::name::{LONGEST_NAME, Name};
-use std::fmt;
-use std::fmt::Write;
 
 // Whether a byte is a lower-case letter.
 pub fn is_letter(byte: u8) -> bool
@@ -97,15 +95,5 @@ impl Name {
     {
         let own = self.as_bytes();
         ends_alike(own, text) && own == text
-    }
-}
-
-// Each byte is shown as the character that it stands for.
-impl fmt::Display for Name {
-    fn fmt<W: fmt::Write>(&self, f: &mut fmt::Formatter<W>) -> fmt::Result {
-        for byte in self.as_bytes() {
-            f.write_char(*byte as char)?;
-        }
-        Ok(())
     }
 }
