@@ -5,6 +5,7 @@
 use aut::header::Header;
 use aut::reader::read;
 use base::labels::Labels;
+use base::name::Name;
 use model::cell::Cell;
 use std::alloc::{AllocError, Global};
 use std::io;
@@ -20,28 +21,31 @@ const UNTOUCHED: Cell = Cell {
 
 fn decode(heap: Global, line: &str) -> Result<Vec<u8>, AllocError> {
     let mut text = Vec::new(heap);
-    let mut escaped = false;
-    for byte in line.bytes() {
-        if escaped {
-            escaped = false;
-            text.push(if byte == b'n' { b'\n' } else { byte })?;
-        } else if byte == b'\\' {
-            escaped = true;
-        } else {
-            text.push(byte)?;
+    let mut bytes = line.bytes();
+    while let Some(byte) = bytes.next() {
+        match byte {
+            b'\\' => match bytes.next() {
+                Some(b'n') => text.push(b'\n')?,
+                Some(escaped) => text.push(escaped)?,
+                None => {}
+            },
+            _ => text.push(byte)?,
         }
     }
     Ok(text)
 }
 
+fn print_name(rt: &HostRuntime, name: &Name) -> io::Result<()> {
+    for byte in name.as_bytes() {
+        rt.print(*byte as char)?;
+    }
+    Ok(())
+}
+
 fn print_labels(rt: &HostRuntime, labels: &Labels) -> io::Result<()> {
-    for action in 1..64u8 {
-        if let Some(name) = labels.name_of(action) {
-            rt.print(" ")?;
-            for byte in name {
-                rt.print(*byte as char)?;
-            }
-        }
+    for name in labels.names().iter().skip(1) {
+        rt.print(" ")?;
+        print_name(rt, name)?;
     }
     Ok(())
 }
@@ -73,12 +77,7 @@ fn print_read(rt: &HostRuntime, header: Header, labels: &Labels, cells: &[Cell])
 }
 
 fn untouched(cells: &[Cell]) -> bool {
-    for cell in cells {
-        if *cell != UNTOUCHED {
-            return false;
-        }
-    }
-    true
+    cells.iter().all(|cell| *cell == UNTOUCHED)
 }
 
 fn run(rt: &HostRuntime, slots: usize, count: usize, text: &[u8]) -> io::Result<()> {
@@ -120,22 +119,19 @@ mod tests {
     use super::*;
     use std::test::Fail;
 
-    // The number by which a text is refused for one slot a state, or 0.
-    fn answer(text: &[u8]) -> u8 {
+    // What one slot a state makes of a text, or the number of its refusal.
+    fn answer(text: &[u8]) -> Result<Header, u8> {
         let mut labels = Labels::fresh();
         let mut cells = [UNTOUCHED; 1];
-        match read(text, &mut labels, &mut cells, 1) {
-            Ok(_) => 0,
-            Err(why) => why.number(),
-        }
+        read(text, &mut labels, &mut cells, 1).map_err(|why| why.number())
     }
 
     #[test]
     fn longest_text(rt: HostRuntime) -> Result<(), Fail> {
         let mut text = vec![in rt.alloc(); b'x'; 2_500_000]?;
-        assert_eq!(rt; answer(text.as_slice()), 2);
+        assert_eq!(rt; answer(text.as_slice()), Err(2));
         text.push(b'x')?;
-        assert_eq!(rt; answer(text.as_slice()), 3);
+        assert_eq!(rt; answer(text.as_slice()), Err(3));
         Ok(())
     }
 
@@ -150,9 +146,9 @@ mod tests {
     #[test]
     fn most_transitions(rt: HostRuntime) -> Result<(), Fail> {
         let most = loops(rt.alloc(), "des (0,65536,1)\n", 65_536)?;
-        assert_eq!(rt; answer(most.as_slice()), 4);
+        assert_eq!(rt; answer(most.as_slice()), Err(4));
         let more = loops(rt.alloc(), "des (0,65537,1)\n", 65_537)?;
-        assert_eq!(rt; answer(more.as_slice()), 3);
+        assert_eq!(rt; answer(more.as_slice()), Err(3));
         Ok(())
     }
 }
