@@ -1,7 +1,7 @@
 #![tactic(auto)]
 
-ghost use Rattle.std.specs.Prelude.{◌≡◌, ◌≤◌, length, IfOk, string_bytes};
-ghost use Rattle.actlw.specs.Printed.{summary_of, line_end};
+ghost use Rattle.std.specs.Prelude.{◌≡◌, IfOk, string_bytes};
+ghost use Rattle.actlw.specs.Printed.{summary_of};
 
 use aut::front::read_front;
 use aut::header::Header;
@@ -12,6 +12,7 @@ use formula::nodes::Nodes;
 use model::cell::Cell;
 use model::deadlock::deadlocks;
 use model::grid::Grid;
+use model::size::Size;
 use std::alloc::{AllocError, Global};
 use std::io;
 use std::io::Read;
@@ -28,18 +29,9 @@ const CELLS: usize = 4_096;
 // Standard input, as far as one byte past what the program takes.
 fn read_input(rt: &HostRuntime) -> io::Result<Vec<u8>> {
     let mut input = Vec::new(rt.alloc());
-    let mut stdin = rt.stdin();
-    let mut part = [0u8; 4096];
-    for _ in 0..u64::MAX {
-        let got = stdin.read(&mut part)?;
-        if got == 0 {
-            break;
-        }
-        input.extend_from_slice(&part[0..got])?;
-        if input.len() > MOST_INPUT {
-            break;
-        }
-    }
+    rt.stdin()
+        .take(MOST_INPUT as u64 + 1)
+        .read_to_end(&mut input)?;
     Ok(input)
 }
 
@@ -61,33 +53,16 @@ fn summary(
 }
 
 fn refuse(rt: &HostRuntime, why: Refusal) -> io::Result<()> {
-    let number = why.number();
-    println!(rt; "refused {number}")
+    println!(rt; "refused {}", why.number())
 }
 
-// Where the line ends that begins at a place of the text: at its byte 10, or at the end of the text.
-fn line_end(text: &[u8], from: usize) -> usize
-    ensures place { result ≡ line_end text.now from }
-    ensures bound { from ≤ length text.now → result ≤ length text.now }
-    ensures onward { from ≤ result }
-{
-    for i in from..text.len() {
-        if text[i] == b'\n' {
-            return i;
-        }
-    }
-    text.len().max(from)
-}
-
-// Enters the formula lines from a place of the input on, and says of each what was read. A refused one takes no number.
-fn read_formulas(rt: &HostRuntime, input: &[u8], from: usize, labels: &Labels) -> io::Result<()> {
+// Enters the formulas, one a line, and says of each what was read. A refused one takes no number.
+fn read_formulas(rt: &HostRuntime, text: &[u8], labels: &Labels) -> io::Result<()> {
     let mut nodes = Nodes::fresh();
     let mut number = 0usize;
-    let mut at = from;
-    while at < input.len() {
-        let end = line_end(input, at);
+    for line in text.split_inclusive(|byte| *byte == b'\n') {
         let before = nodes.count();
-        match enter(&mut nodes, &input[at..end], labels) {
+        match enter(&mut nodes, line.strip_suffix(b"\n").unwrap_or(line), labels) {
             Ok(_) => {
                 let size = nodes.count().saturating_sub(before);
                 println!(rt; "formula {number}: {size} nodes")?;
@@ -95,30 +70,31 @@ fn read_formulas(rt: &HostRuntime, input: &[u8], from: usize, labels: &Labels) -
             }
             Err(why) => refuse(rt, why)?,
         }
-        at = end.saturating_add(1);
     }
     Ok(())
 }
 
 // Says what was read of the model.
 fn report(rt: &HostRuntime, header: Header, labels: &Labels, cells: &[Cell]) -> io::Result<()> {
-    let (grid, refusal) = Grid::over(cells, header.states, SLOTS, header.start);
-    if let Some(why) = refusal {
-        return refuse(rt, why);
+    let size = Size {
+        states: header.states,
+        slots: SLOTS,
+    };
+    match Grid::over(cells, size, header.start) {
+        Ok(grid) => {
+            rt.println(summary(rt.alloc(), header, labels.count() - 1, deadlocks(&grid))?)
+        }
+        Err(why) => refuse(rt, why),
     }
-    rt.println(summary(rt.alloc(), header, labels.count() - 1, deadlocks(&grid))?)
 }
 
 fn main(rt: HostRuntime) -> io::Result<()> {
     let input = read_input(&rt)?;
     let mut labels = Labels::fresh();
-    let mut cells = [Cell {
-        filled: false,
-        action: 0,
-        target: 0,
-    }; CELLS];
+    let mut cells = [Cell::EMPTY; CELLS];
+    let text = input.as_slice();
     match read_front(
-        input.as_slice(),
+        text,
         MOST_INPUT,
         &mut labels,
         &mut cells,
@@ -127,7 +103,7 @@ fn main(rt: HostRuntime) -> io::Result<()> {
     ) {
         Ok((header, length)) => {
             report(&rt, header, &labels, &cells)?;
-            read_formulas(&rt, input.as_slice(), length, &labels)
+            read_formulas(&rt, text.get(length..).unwrap_or(&[]), &labels)
         }
         Err(why) => refuse(&rt, why),
     }
