@@ -6,6 +6,7 @@ use marking::node::mark;
 use model::cell::Cell;
 use model::grid::Grid;
 use model::question::Model;
+use model::size::Size;
 use shelf::bit_shelf::BitShelf;
 use shelf::column_shelf::ColumnShelf;
 use shelf::shelf::Shelf;
@@ -13,9 +14,9 @@ use shelf::shelf::Shelf;
 // The nodes of a formula over the actions a, b and c, which are 1, 2 and 3.
 fn nodes_of(text: &[u8]) -> Result<Nodes, Refusal> {
     let mut labels = Labels::fresh();
-    labels.add(b"a")?;
-    labels.add(b"b")?;
-    labels.add(b"c")?;
+    for name in ["a", "b", "c"] {
+        labels.add(name.as_bytes())?;
+    }
     let mut nodes = Nodes::fresh();
     enter(&mut nodes, text, &labels)?;
     Ok(nodes)
@@ -36,15 +37,11 @@ fn mark_all<M: Model, S: Shelf>(model: &M, shelf: &mut S, nodes: &Nodes) -> Resu
 fn mark_rounds<S: Shelf>(
     text: &[u8],
     cells: &[Cell],
-    states: usize,
-    slots: usize,
+    size: Size,
     rounds: usize,
     shelf: &mut S,
 ) -> Result<usize, Refusal> {
-    let (grid, refusal) = Grid::over(cells, states, slots, 0);
-    if let Some(why) = refusal {
-        return Err(why);
-    }
+    let grid = Grid::over(cells, size, 0)?;
     let nodes = nodes_of(text)?;
     for _ in 0..rounds {
         mark_all(&grid, shelf, &nodes)?;
@@ -54,6 +51,7 @@ fn mark_rounds<S: Shelf>(
 
 // The same for a caller outside, on a shelf of bits over its bytes, which have the marks afterwards. 0 stands for a refusal, since no
 // formula is without nodes.
+// kept: a number for the refusal, since C has no Result.
 #[unsafe(no_mangle)]
 pub extern "C" fn neqoylla_mark_bits(
     text: &[u8],
@@ -64,10 +62,11 @@ pub extern "C" fn neqoylla_mark_bits(
     bytes: &mut [u8],
 ) -> usize {
     let mut shelf = BitShelf::open(bytes, states);
-    mark_rounds(text, cells, states, slots, rounds, &mut shelf).unwrap_or(0)
+    mark_rounds(text, cells, Size { states, slots }, rounds, &mut shelf).unwrap_or(0)
 }
 
 // The same on a shelf of columns.
+// kept: two exports of one shape, since C has no type parameters.
 #[unsafe(no_mangle)]
 pub extern "C" fn neqoylla_mark_columns(
     text: &[u8],
@@ -78,5 +77,5 @@ pub extern "C" fn neqoylla_mark_columns(
     columns: &mut [u64],
 ) -> usize {
     let mut shelf = ColumnShelf::open(columns, states);
-    mark_rounds(text, cells, states, slots, rounds, &mut shelf).unwrap_or(0)
+    mark_rounds(text, cells, Size { states, slots }, rounds, &mut shelf).unwrap_or(0)
 }

@@ -3,6 +3,7 @@ use base::labels::Labels;
 use model::cell::Cell;
 
 // What reading came to: the number of the refusal, or 0; what line one says; and how many names the label list has.
+// kept: a number for the refusal, since C has no Result.
 #[repr(C)]
 pub struct Outcome {
     pub refusal: u8,
@@ -14,21 +15,10 @@ pub struct Outcome {
 
 // Puts the names into a text, each with a byte 10 after it, as far as the text goes.
 fn put_names(labels: &Labels, text: &mut [u8]) {
-    let mut at = 0usize;
-    for action in 0..64u8 {
-        let Some(name) = labels.name_of(action) else {
-            return;
-        };
-        for byte in name {
-            if at < text.len() {
-                text[at] = *byte;
-                at += 1;
-            }
-        }
-        if at < text.len() {
-            text[at] = b'\n';
-            at += 1;
-        }
+    let lines = labels.names().iter();
+    let bytes = lines.flat_map(|name| name.as_bytes().iter().chain(b"\n"));
+    for (place, byte) in text.iter_mut().zip(bytes) {
+        *place = *byte;
     }
 }
 
