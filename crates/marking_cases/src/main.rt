@@ -2,7 +2,6 @@
 // formula holds. The last model is a grid with the transitions of the joined one before it.
 #![tactic(auto)]
 
-use anyhow::anyhow;
 use aut::copy::copy_through_text;
 use aut::reader::read;
 use base::action_set::ActionSet;
@@ -18,10 +17,11 @@ use model::joined::Joined;
 use model::joining::join;
 use model::question::Model;
 use model::retry_counter::RetryCounter;
+use model::size::Size;
 use shelf::bit_shelf::BitShelf;
 use shelf::column_shelf::ColumnShelf;
 use shelf::shelf::Shelf;
-use std::io;
+use std::{array, io};
 
 // No model here has more states.
 const MOST_STATES: usize = 16;
@@ -30,12 +30,6 @@ const MOST_STATES: usize = 16;
 const ROOM: usize = 4_096;
 
 const CELLS: usize = 256;
-
-const EMPTY: Cell = Cell {
-    filled: false,
-    action: 0,
-    target: 0,
-};
 
 const UPLOAD: &[u8] =
     b"des (0,5,4)\n(0,\"meas\",1)\n(1,\"send\",2)\n(2,\"add\",3)\n(3,\"ack\",0)\n(3,\"lost\",1)\n";
@@ -60,12 +54,8 @@ fn mark_all<M: Model, S: Shelf>(model: &M, shelf: &mut S, nodes: &Nodes) -> Resu
             last = number;
         }
     }
-    let mut on = [false; MOST_STATES];
-    for state in 0..MOST_STATES {
-        on[state] = shelf.look(last, state);
-    }
     Ok(Marks {
-        on,
+        on: array::from_fn(|state| shelf.look(last, state)),
         count: count(shelf, last),
     })
 }
@@ -84,18 +74,14 @@ fn on_both<M: Model>(model: &M, nodes: &Nodes) -> Result<(Marks, Marks), Refusal
 fn show<M: Model>(rt: &HostRuntime, name: &str, model: &M, nodes: &Nodes) -> io::Result<()> {
     let (bits, columns) = match on_both(model, nodes) {
         Ok(both) => both,
-        Err(why) => {
-            let number = why.number();
-            return println!(rt; "  {name}: refused {number}");
-        }
+        Err(why) => return println!(rt; "  {name}: refused {}", why.number()),
     };
     print!(rt; "  {name} ")?;
     let states = model.states();
-    for state in 0..states.min(MOST_STATES) {
-        rt.print(if bits.on[state] { '1' } else { '0' })?;
+    for on in bits.on.iter().take(states) {
+        rt.print(if *on { '1' } else { '0' })?;
     }
-    let count = bits.count;
-    print!(rt; " {count} of {states}")?;
+    print!(rt; " {} of {states}", bits.count)?;
     rt.println(if bits == columns {
         ""
     } else {
@@ -113,28 +99,17 @@ struct Models {
 
 fn make_models() -> Result<Models, Refusal> {
     let mut labels = Labels::fresh();
-    labels.add(b"meas")?;
-    labels.add(b"send")?;
-    labels.add(b"add")?;
-    labels.add(b"ack")?;
-    labels.add(b"lost")?;
-    labels.add(b"quit")?;
-    labels.add(b"poll")?;
-    labels.add(b"drop")?;
-    let counter = RetryCounter::new(7, 2, 4, 6)?;
-    let (pair, refusal) = join(
-        RetryCounter::new(2, 2, 4, 6)?,
-        RetryCounter::new(2, 7, 4, 8)?,
-        ActionSet::only(4),
-    );
-    match refusal {
-        None => Ok(Models {
-            labels,
-            counter,
-            pair,
-        }),
-        Some(why) => Err(why),
+    for name in ["meas", "send", "add", "ack", "lost", "quit", "poll", "drop"] {
+        labels.add(name.as_bytes())?;
     }
+    let counter = RetryCounter::new(7, 2, 4, 6)?;
+    let sender = RetryCounter::new(2, 2, 4, 6)?;
+    let poller = RetryCounter::new(2, 7, 4, 8)?;
+    Ok(Models {
+        labels,
+        counter,
+        pair: join(sender, poller, ActionSet::only(4))?,
+    })
 }
 
 // Cells that were read from text.
@@ -148,10 +123,10 @@ struct Texts {
 
 fn read_texts(models: &mut Models) -> Result<Texts, Refusal> {
     let mut texts = Texts {
-        upload: [EMPTY; 8],
-        line: [EMPTY; 4],
-        stuck: [EMPTY; 2],
-        pair: [EMPTY; CELLS],
+        upload: [Cell::EMPTY; 8],
+        line: [Cell::EMPTY; 4],
+        stuck: [Cell::EMPTY; 2],
+        pair: [Cell::EMPTY; CELLS],
     };
     read(UPLOAD, &mut models.labels, &mut texts.upload, 2)?;
     read(LINE, &mut models.labels, &mut texts.line, 2)?;
@@ -171,48 +146,39 @@ fn show_grid(
     rt: &HostRuntime,
     name: &str,
     cells: &[Cell],
-    states: usize,
-    slots: usize,
+    size: Size,
     nodes: &Nodes,
 ) -> io::Result<()> {
-    let (grid, refusal) = Grid::over(cells, states, slots, 0);
-    match refusal {
-        None => show(rt, name, &grid, nodes),
-        Some(why) => {
-            let number = why.number();
-            println!(rt; "  {name}: refused {number}")
-        }
+    match Grid::over(cells, size, 0) {
+        Ok(grid) => show(rt, name, &grid, nodes),
+        Err(why) => println!(rt; "  {name}: refused {}", why.number()),
     }
 }
 
+// The size of a grid.
+fn size(states: usize, slots: usize) -> Size {
+    Size { states, slots }
+}
+
 fn run(rt: &HostRuntime, models: &Models, nodes: &Nodes, texts: &Texts) -> io::Result<()> {
-    show_grid(rt, "upload", &texts.upload, 4, 2, nodes)?;
-    show_grid(rt, "line", &texts.line, 2, 2, nodes)?;
-    show_grid(rt, "stuck", &texts.stuck, 1, 2, nodes)?;
+    show_grid(rt, "upload", &texts.upload, size(4, 2), nodes)?;
+    show_grid(rt, "line", &texts.line, size(2, 2), nodes)?;
+    show_grid(rt, "stuck", &texts.stuck, size(1, 2), nodes)?;
     show(rt, "counter", &models.counter, nodes)?;
     show(rt, "pair", &models.pair, nodes)?;
-    show_grid(rt, "pair as a grid", &texts.pair, 9, 15, nodes)
+    show_grid(rt, "pair as a grid", &texts.pair, size(9, 15), nodes)
 }
 
 fn main(rt: HostRuntime) -> anyhow::Result<()> {
-    let mut models = match make_models() {
-        Ok(models) => models,
-        Err(why) => return Err(anyhow!(why.word())),
-    };
-    let texts = match read_texts(&mut models) {
-        Ok(texts) => texts,
-        Err(why) => return Err(anyhow!(why.word())),
-    };
+    let mut models = make_models()?;
+    let texts = read_texts(&mut models)?;
     for line in rt.lines(rt.alloc()) {
         let line = line?;
         println!(rt; "{line}")?;
         let mut nodes = Nodes::fresh();
         match enter(&mut nodes, line.as_bytes(), &models.labels) {
             Ok(_) => run(&rt, &models, &nodes, &texts)?,
-            Err(why) => {
-                let number = why.number();
-                println!(rt; "  refused {number}")?;
-            }
+            Err(why) => println!(rt; "  refused {}", why.number())?,
         }
     }
     Ok(())
