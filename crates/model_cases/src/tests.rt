@@ -6,6 +6,7 @@ use model::grid::Grid;
 use model::joining::{join, join_refusal};
 use model::question::Model;
 use model::retry_counter::RetryCounter;
+use model::size::Size;
 use std::test::Fail;
 
 const ACK: u8 = 2;
@@ -28,8 +29,7 @@ const TWO_STATES: [Cell; 2] = [
 fn two_counters(rt: HostRuntime) -> Result<(), Fail> {
     let left = RetryCounter::new(1, 1, ACK, 3)?;
     let right = RetryCounter::new(1, 4, ACK, 5)?;
-    let (pair, refusal) = join(left, right, ActionSet::only(ACK));
-    assert_eq!(rt; refusal, None);
+    let pair = join(left, right, ActionSet::only(ACK))?;
     assert_eq!(rt; pair.slots(), 15);
     assert_eq!(rt; pair.slot(0, 0), Some((1, 2)));
     assert_eq!(rt; pair.slot(1, 5), Some((5, 0)));
@@ -46,10 +46,8 @@ fn three_counters(rt: HostRuntime) -> Result<(), Fail> {
     let first = RetryCounter::new(1, 1, ACK, 3)?;
     let second = RetryCounter::new(1, 4, ACK, 5)?;
     let third = RetryCounter::new(1, 6, ACK, 7)?;
-    let (pair, refusal) = join(first, second, ack);
-    assert_eq!(rt; refusal, None);
-    let (all, refusal) = join(pair, third, ack);
-    assert_eq!(rt; refusal, None);
+    let pair = join(first, second, ack)?;
+    let all = join(pair, third, ack)?;
     assert_eq!(rt; all.states(), 8);
     assert_eq!(rt; all.slots(), 63);
     assert_eq!(rt; all.slot(7, 49), Some((ACK, 0)));
@@ -62,10 +60,12 @@ fn three_counters(rt: HostRuntime) -> Result<(), Fail> {
 #[test]
 fn lent_grid(rt: HostRuntime) -> Result<(), Fail> {
     let counter = RetryCounter::new(2, 1, ACK, 3)?;
-    let (grid, refusal) = Grid::over(&TWO_STATES, 2, 1, 0);
-    assert_eq!(rt; refusal, None);
-    let (both, refusal) = join(&grid, counter, ActionSet::only(ACK));
-    assert_eq!(rt; refusal, None);
+    let size = Size {
+        states: 2,
+        slots: 1,
+    };
+    let grid = Grid::over(&TWO_STATES, size, 0)?;
+    let both = join(&grid, counter, ActionSet::only(ACK))?;
     assert_eq!(rt; both.states(), 6);
     assert_eq!(rt; both.slots(), 7);
     assert_eq!(rt; both.slot(0, 0), None);
@@ -77,14 +77,20 @@ fn lent_grid(rt: HostRuntime) -> Result<(), Fail> {
 #[test]
 fn refused(rt: HostRuntime) -> Result<(), Fail> {
     let counter = RetryCounter::new(255, 1, ACK, 3)?;
-    let (pair, refusal) = join(counter, counter, ActionSet::none());
-    assert_eq!(rt; refusal, None);
+    let pair = join(counter, counter, ActionSet::none())?;
     assert_eq!(rt;
         join_refusal(&pair, &counter, ActionSet::none()),
         Some(Refusal::TooBig)
     );
-    let (lone, refusal) = join(counter, counter, ActionSet::all());
-    assert_eq!(rt; refusal, Some(Refusal::Silent));
+    assert_eq!(rt;
+        join(counter, counter, ActionSet::all()).err(),
+        Some(Refusal::Silent)
+    );
+    let one = Size {
+        states: 1,
+        slots: 1,
+    };
+    let lone = Grid::over(&[Cell::EMPTY], one, 0)?;
     assert_eq!(rt; deadlocks(&lone), lone.states());
     Ok(())
 }
