@@ -1,6 +1,6 @@
 ghost use Rattle.std.specs.Prelude.{◌≡◌, map};
 ghost use Rattle.base.specs.Labels.{listed};
-ghost use Rattle.formula.specs.Entering.{is_listed, all_listed, verdict_on, Whole, ChecksTokens, Checks, Entered};
+ghost use Rattle.formula.specs.Entering.{is_listed, all_listed, Whole, ChecksTokens, Checks, Entered};
 ghost use Rattle.formula.specs.Laying.{drafted, shapes};
 ghost use Rattle.formula.specs.Tokens.{tok};
 

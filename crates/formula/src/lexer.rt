@@ -1,4 +1,4 @@
-ghost use Rattle.std.specs.Prelude.{◌≡◌, ◌<◌, ◌≤◌, map, length, Some, None, IfNone, IfSome, IfOk, IfErr, OnErr};
+ghost use Rattle.std.specs.Prelude.{◌≡◌, ◌<◌, ◌≤◌, map, length, IfNone, IfSome, IfOk, IfErr, OnErr};
 ghost use Rattle.std.specs.List.{prefix_len};
 ghost use Rattle.std.specs.Iterator.{at_most};
 ghost use Rattle.base.specs.Names.{name_byte};
@@ -107,7 +107,8 @@ fn token_at(text: &[u8]) -> Result<(Token, &[u8]), Refusal>
 fn past_spaces(text: &[u8]) -> Option<&[u8]>
     ensures none { IfNone result (front text.now ≡ ended) }
     ensures some { IfSome result (λ rest. front text.now ≡ token_at rest.now) }
-    ensures within { IfSome result (λ rest. (0 < length rest.now) × (length rest.now ≤ length text.now)) }
+    ensures begins { IfSome result (λ rest. 0 < length rest.now) }
+    ensures within { IfSome result (λ rest. length rest.now ≤ length text.now) }
 {
     let start = text.iter().position(|byte| *byte != b' ')?;
     Some(&text[start..])

@@ -65,6 +65,7 @@ impl Draft {
     }
 
     // Writes a node and says its number, which is 0 where it found no room.
+    // kept: no `Option` for the number, since the reading goes on without room: a text that is no formula is refused for that first.
     pub(crate) fn put(&mut self, node: Node) -> usize
         ensures after { drafted self.new ≡ push (drafted self.old) (shape node) }
         ensures number { result ≡ top (drafted self.new) }

@@ -1,6 +1,6 @@
-use Rattle.std.proofs.Common.{rules, ◌≡◌, ◌<◌, None, length, ap, ◌∙◌, arith}
-use Rattle.formula.specs.Tokens.{tok, found, broken, ended, front, tokens_of}
-use Rattle.formula.proofs.Lexing.{begins, at_end, at_break, at_token}
+use Rattle.std.proofs.Common.{rules, ◌≡◌, ◌<◌, length, ap, ◌∙◌, arith}
+use Rattle.formula.specs.Tokens.{tok, found, front}
+use Rattle.formula.proofs.Lexing.{begins, at_token}
 use Rattle.formula.proofs.lexer.lex.Goals as goal
 
 pub loop-token-init : goal.loop-token-init
@@ -14,22 +14,9 @@ loop-token-init c =
 pub loop-token-preserved : goal.loop-token-preserved
 loop-token-preserved c =
     let l = c.loop-token in
-    let e : found (tok c.in_ok-token.field-0) c.next.new.self.rest.now ≡ front c.loop-token.token-iterator.rest.now = search rules in
+    let e : front c.loop-token.token-iterator.rest.now ≡ found (tok c.in_ok-token.field-0) c.next.new.self.rest.now = search rules in
     let less : length c.next.new.self.rest.now < length c.loop-token.token-iterator.rest.now = (c.in-Some.ensures.goes.on tt).2 in
     record {
-      lexed = at_token c.args.text.now l.tokens.items l.token-iterator.rest.now (omega (arith, l.invariant.few)) l.invariant.lexed c.in_ok-token.field-0 _ _ e c.push.ensures.items;
+      lexed = at_token c.args.text.now l.tokens.items l.token-iterator.rest.now (omega (arith, l.invariant.few)) l.invariant.lexed c.in_ok-token.field-0 _ e _ c.push.ensures.items;
       few = omega (arith, l.invariant.few, c.push.ensures.len, less);
     }
-
-pub returns-in_err-token : goal.returns-in_err-token
-returns-in_err-token c =
-    let l = c.loop-token in
-    let e : broken ≡ front c.loop-token.token-iterator.rest.now = search rules in
-    let k : tokens_of c.args.text.now ≡ None = at_break c.args.text.now l.tokens.items l.token-iterator.rest.now (omega (arith, l.invariant.few)) l.invariant.lexed e in
-    search rules
-
-pub returns-clause-tokens : goal.returns-clause-tokens
-returns-clause-tokens c =
-    let l = c.loop-token in
-    let e : ended ≡ front c.loop-token.token-iterator.rest.now = search rules in
-    at_end c.args.text.now l.tokens.items l.token-iterator.rest.now (omega (arith, l.invariant.few)) l.invariant.lexed e
