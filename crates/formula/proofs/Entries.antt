@@ -1,15 +1,15 @@
 -- From the tokens of a text to what entering it answers.
-use Rattle.std.proofs.Common.{◌≡◌, ℕ, ◌+◌, ◌-◌, ◌*◌, ◌<◌, ◌≤◌, Bool, true, false, cond, ltb, ◌⊎◌, List, [], ◌∷◌, ◌++◌, length, Some, None, Ok, Err, Option, Result, sym, refl, ap, ◌∙◌, subst, inl, inr, arith}
-use Rattle.std.proofs.lemmas.List.{length-append}
+use Rattle.std.proofs.Common.{◌≡◌, ℕ, ◌+◌, ◌-◌, ◌*◌, ◌<◌, ◌≤◌, Bool, true, false, cond, ltb, ◌⊎◌, List, [], ◌∷◌, ◌++◌, length, take, Some, None, Ok, Err, Option, Result, sym, refl, ap, ◌∙◌, subst, inl, inr, arith}
+use Rattle.std.proofs.lemmas.List.{length-append, length-map, length-take}
 use Rattle.std.proofs.lemmas.Bool.{cond-true, cond-false, lt-ltb, le-ltb, both_ways}
 use Rattle.base.specs.declared.refusal.Refusal.{Refusal}
 use Rattle.base.specs.declared.refusal.Refusal.TheVariants.{Grammar, Nameless, Full}
 use Rattle.formula.specs.declared.nodes.Entry.{Entry}
 use Rattle.formula.specs.declared.nodes.Nodes.{Nodes}
-use Rattle.formula.specs.Entering.{all_listed, fits, verdict, verdict_on, verdict_at, Written, Planned, Refused, Entered}
+use Rattle.formula.specs.Entering.{all_listed, fits, verdict, verdict_on, verdict_at, Whole, Written, Checked, Planned, Refused, Entered}
 use Rattle.formula.specs.Formulas.{size}
 use Rattle.formula.specs.Grammar.{Says}
-use Rattle.formula.specs.Laying.{Shape, shapes, lay, formula_at}
+use Rattle.formula.specs.Laying.{Shape, shape, shapes, DraftState, top, lay, formula_at}
 use Rattle.formula.specs.Reading.{Reads, OrLevel, formula_rules, nothing_after, whole_at, tree_of}
 use Rattle.formula.specs.Tokens.{Tok, tokens_of}
 use Rattle.formula.specs.Trees.{Tree}
@@ -40,6 +40,10 @@ tree_some ts us t a h = ap whole_at (a (3 * length ts + 4) (omega arith)) ∙ at
     at : (vs : List Tok) → length vs ≡ 0 → nothing_after t vs ≡ Some t
     at [] h = refl
     at (v ∷ vs) h = absurd (omega arith)
+
+-- there are 48 nodes at most
+pub few_shapes : (n : Nodes) → length (shapes n) ≤ 48
+few_shapes n = omega (arith, length-map (take n.count n.table) shape, length-take n.count n.table, n.few)
 
 -- the verdict, by how the nodes were laid
 module _ (names : List (List ℕ)) (ts : List Tok) (t : Tree) (xs : List Shape) (few : length xs ≤ 48) (known : true ≡ all_listed names ts) where
@@ -74,6 +78,17 @@ module _ (names : List (List ℕ)) (ts : List Tok) (t : Tree) (xs : List Shape) 
 pub nameless : (names : List (List ℕ)) (n : ℕ) (ts : List Tok) (t : Tree) → tree_of ts ≡ Some t → false ≡ all_listed names ts → verdict_on names n ts (tree_of ts) ≡ Err Nameless
 nameless names n ts t e k = ap (verdict_on names n ts) e ∙ cond-false _ _ _ (sym k)
 
+-- the tokens that are a formula whose names the list has, by the nodes that were written
+module _ (names : List (List ℕ)) (ts : List Tok) (n : Nodes) (known : true ≡ all_listed names ts) where
+  module _ (after : DraftState) (root : ℕ) (whole : Whole names ts (Some (shapes n)) after (Some root)) where
+    pub full : after ≡ None → verdict_on names (length (shapes n)) ts (tree_of ts) ≡ Err Full
+    full e = ap (verdict_on names (length (shapes n)) ts) whole.1 ∙ over names ts whole.0 (shapes n) (few_shapes n) known (sym whole.2 ∙ e)
+
+    pub checked : (m : Nodes) → after ≡ Some (shapes m) → Checked names ts (shapes n) (record { nodes = m; root = root })
+    checked m e =
+        let k = within names ts whole.0 (shapes n) (few_shapes n) known (shapes m) root (sym whole.2 ∙ e) (whole.3 ∙ ap top e) in
+        record { tree = whole.0; is = whole.1; answer = k.0; written = k.1 }
+
 -- the text
 says : (text : List ℕ) (ts : List Tok) (t : Tree) → tokens_of text ≡ Some ts → tree_of ts ≡ Some t → Says text t
 says text ts t l e = record { tokens = ts; lexed = l; whole = tree_out ts t e }
@@ -97,7 +112,7 @@ apart C e = let z : ◌≡◌ {A = ℕ} 0 1 = cc in absurd (omega arith)
 
 module _ (text : List ℕ) (names : List (List ℕ)) (before : Nodes) where
   abbrev xs : List Shape
-  xs = shapes before.table before.count
+  xs = shapes before
 
   pub refused : (e : Refusal) → Refused names text (length xs) e → Entered text names before before (Err e)
   refused e k = record {
@@ -129,8 +144,8 @@ module _ (text : List ℕ) (names : List (List ℕ)) (before : Nodes) where
       formed = λ h t d. sym k.checked.answer ∙ ap (λ ts. verdict names (length xs) ts k.checked.tree) (same (sym k.lexed ∙ d.lexed)) ∙ ap (verdict names (length xs) d.tokens) (one t d);
       written = λ root h t d.
           let r : entry.root ≡ root = cc in
-          subst (λ u. Written names u xs (shapes entry.nodes.table entry.nodes.count) root) (one t d)
-          (subst (Written names k.checked.tree xs (shapes entry.nodes.table entry.nodes.count)) r k.checked.written);
+          subst (λ u. Written names u xs (shapes entry.nodes) root) (one t d)
+          (subst (Written names k.checked.tree xs (shapes entry.nodes)) r k.checked.written);
       earlier = λ i h. ap (λ ys. formula_at ys i) k.checked.written.grown ∙ earlier xs k.checked.written.new i h;
       unaltered = λ d h. apart _ h;
     }

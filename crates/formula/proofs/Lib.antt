@@ -8,7 +8,6 @@ mod Layings
 mod Lexing
 mod Readings
 mod Runs
-mod Shapes
 mod Sound
 mod Stages
 mod LongestRuns

@@ -1,83 +1,75 @@
--- A loop over a run of bytes: what is left of the run, and what follows it.
-use Rattle.std.proofs.Common.{◌≡◌, ℕ, suc, ◌+◌, ◌-◌, ◌<◌, ◌≤◌, Bool, true, false, cond, ◌&&◌, eqb, leb, List, [], ◌∷◌, ◌++◌, length, get_or, take, drop, Option, sym, ap, ◌∙◌, arith}
-use Rattle.std.proofs.lemmas.List.{at_drop_more, at_drop_all, take_more, get_or-drop, length-drop, append_assoc, append-nil, drop_all, drop_more, take_all}
-use Rattle.std.proofs.lemmas.Bool.{leb-true, and_parts}
+-- What is cut from the front of a text.
+use Rattle.std.proofs.Common.{◌≡◌, ℕ, suc, ◌+◌, ◌<◌, ◌≤◌, Bool, true, false, cond, not, ◌&&◌, eqb, leb, ltb, List, [], ◌∷◌, length, take, drop, Some, None, Option, refl, ap, ◌∙◌, arith, length-drop}
+use Rattle.std.specs.List.{prefix_len, position_or_len, position}
+use Rattle.std.specs.Option.{option_map}
+use Rattle.std.proofs.lemmas.List.{take_all, drop_all}
+use Rattle.std.proofs.lemmas.Bool.{leb-true, ltb-false, and_parts}
 use Rattle.base.specs.Names.{name_byte, begins_name, name_bytes, is_name}
 use Rattle.formula.specs.declared.mark.Mark.{Mark}
-use Rattle.formula.specs.declared.token.Next.{Next}
-use Rattle.formula.specs.declared.token.Next.TheVariants as next
-use Rattle.formula.specs.Tokens.{word, capital, run, past, Front, broken, found, name, found_mark, word_from, name_from, token_from, front, Ends}
-
--- from the place `from` the run has gone on to i
-abbrev pub Going : (ℕ → Bool) → List ℕ → ℕ → ℕ → Type 0
-Going p t from i = (run p (drop from t) ≡ take (i - from) (drop from t) ++ run p (drop i t)) × (past p (drop from t) ≡ past p (drop i t))
-
-module _ (p : ℕ → Bool) (t : List ℕ) (from i : ℕ) (low : from ≤ i) (going : Going p t from i) where
-  one_more : i < length t → take (i + 1 - from) (drop from t) ≡ take (i - from) (drop from t) ++ get_or t i 0 ∷ []
-  one_more h =
-      let e : i + 1 - from ≡ i - from + 1 = omega arith in
-      let f : from + (i - from) ≡ i = omega arith in
-      ap (λ k. take k (drop from t)) e ∙ take_more (drop from t) (i - from) 0 (simp length-drop (omega arith))
-      ∙ ap (λ x. take (i - from) (drop from t) ++ x ∷ []) (get_or-drop from t (i - from) 0 ∙ ap (λ k. get_or t k 0) f)
-
-  pub goes_on : i < length t → true ≡ p (get_or t i 0) → Going p t from (i + 1)
-  goes_on h e = (
-    going.0 ∙ ap (λ x. take (i - from) (drop from t) ++ x) (at_drop_more (run p) t i 0 h ∙ ap (λ b. cond b (get_or t i 0 ∷ run p (drop (i + 1) t)) []) (sym e))
-        ∙ sym (append_assoc (take (i - from) (drop from t)) (get_or t i 0 ∷ []) (run p (drop (i + 1) t))) ∙ ap (λ x. x ++ run p (drop (i + 1) t)) (sym (one_more h)),
-    going.1 ∙ at_drop_more (past p) t i 0 h ∙ ap (λ b. cond b (past p (drop (i + 1) t)) (get_or t i 0 ∷ drop (i + 1) t)) (sym e),
-  )
-
-  taken : run p (drop i t) ≡ [] → run p (drop from t) ≡ take (i - from) (drop from t)
-  taken e = going.0 ∙ ap (λ x. take (i - from) (drop from t) ++ x) e ∙ append-nil (take (i - from) (drop from t))
-
-  pub stops : i < length t → false ≡ p (get_or t i 0) → (run p (drop from t) ≡ take (i - from) (drop from t)) × (past p (drop from t) ≡ drop i t)
-  stops h e = (
-    taken (at_drop_more (run p) t i 0 h ∙ ap (λ b. cond b (get_or t i 0 ∷ run p (drop (i + 1) t)) []) (sym e)),
-    going.1 ∙ at_drop_more (past p) t i 0 h ∙ ap (λ b. cond b (past p (drop (i + 1) t)) (get_or t i 0 ∷ drop (i + 1) t)) (sym e) ∙ sym (drop_more t i 0 h),
-  )
-
-  pub runs_out : length t ≤ i → (run p (drop from t) ≡ take (i - from) (drop from t)) × (past p (drop from t) ≡ drop i t)
-  runs_out h = (taken (at_drop_all (run p) t i h), going.1 ∙ at_drop_all (past p) t i h ∙ sym (drop_all i t h))
-
--- a space is passed over
-pub over-space : (t : List ℕ) (i : ℕ) → i < length t → get_or t i 0 ≡ 32 → front (drop i t) ≡ front (drop (i + 1) t)
-over-space t i h e = at_drop_more front t i 0 h ∙ ap (λ b. front (b ∷ drop (i + 1) t)) e
-
--- a token's bytes: the first, and the run that goes on with it
-module _ (p : ℕ → Bool) (t : List ℕ) (at end : ℕ) (inside : at < length t) (low : at + 1 ≤ end)
-    (taken : run p (drop (at + 1) t) ≡ take (end - (at + 1)) (drop (at + 1) t)) where
-  pub cut : take (end - at) (drop at t) ≡ get_or t at 0 ∷ run p (drop (at + 1) t)
-  cut =
-      let e : end - at ≡ suc (end - (at + 1)) = omega arith in
-      ap (λ k. take k (drop at t)) e ∙ ap (take (suc (end - (at + 1)))) (drop_more t at 0 inside) ∙ ap (λ x. get_or t at 0 ∷ x) (sym taken)
-
-  pub word-found : (o : Option Mark) → o ≡ word (take (end - at) (drop at t)) → past p (drop (at + 1) t) ≡ drop end t → p ≡ capital →
-      found_mark o (drop end t) broken ≡ word_from (get_or t at 0) (drop (at + 1) t)
-  word-found o e rest is =
-      ap (λ x. found_mark x (drop end t) broken) (e ∙ ap word cut ∙ ap (λ q. word (get_or t at 0 ∷ run q (drop (at + 1) t))) is)
-      ∙ ap (λ x. found_mark (word (get_or t at 0 ∷ run capital (drop (at + 1) t))) x broken) (sym rest ∙ ap (λ q. past q (drop (at + 1) t)) is)
-
-  abbrev named : Bool → Front
-  named b = cond b (found (name (take (end - at) (drop at t))) (drop end t)) broken
-
-  pub name-found : (b : Bool) → b ≡ is_name (take (end - at) (drop at t)) → past p (drop (at + 1) t) ≡ drop end t → p ≡ name_byte →
-      named b ≡ name_from (get_or t at 0) (drop (at + 1) t)
-  name-found b e rest is =
-      ap named (e ∙ ap is_name cut)
-      ∙ ap (λ x. cond (is_name x) (found (name (take (end - at) (drop at t))) (drop end t)) broken) (ap (λ q. get_or t at 0 ∷ run q (drop (at + 1) t)) is)
-      ∙ ap (λ x. cond (is_name (get_or t at 0 ∷ run name_byte (drop (at + 1) t))) (found (name x) (drop end t)) broken) (cut ∙ ap (λ q. get_or t at 0 ∷ run q (drop (at + 1) t)) is)
-      ∙ ap (λ x. cond (is_name (get_or t at 0 ∷ run name_byte (drop (at + 1) t))) (found (name (get_or t at 0 ∷ run name_byte (drop (at + 1) t))) x) broken) (sym rest ∙ ap (λ q. past q (drop (at + 1) t)) is)
+use Rattle.formula.specs.declared.mark.Mark.TheVariants.{Sign as signed}
+use Rattle.formula.specs.Tokens.{capital, sign, word, Front, ended, broken, found, name, found_mark, word_at, name_at, token_at, front}
 
 -- a name is at most 16 bytes long
 pub name-fits : (y : List ℕ) → is_name y ≡ true → take 16 y ≡ y
 name-fits y h = take_all 16 y (leb-true _ _ (and_parts (leb (length y) 16) (begins_name y && name_bytes y) h).0)
 
--- what is no space begins a token
-pub no_space : (t : List ℕ) (i : ℕ) → i < length t → eqb (get_or t i 0) 32 ≡ false → front (drop i t) ≡ token_from (get_or t i 0) (drop (i + 1) t)
-no_space t i h e = at_drop_more front t i 0 h ∙ ap (λ b. cond b (front (drop (i + 1) t)) (token_from (get_or t i 0) (drop (i + 1) t))) e
+-- where the first byte stands that is no space
+abbrev pub start : List ℕ → ℕ
+start bs = position_or_len (λ b. not (eqb b 32)) bs
 
--- a place further back does too
-pub ends-past : (r : Next) (at from long : ℕ) → from ≤ at → Ends r at long → Ends r from long
-ends-past (next.Found t end) at from long h e = (omega (arith, e.0), e.1)
-ends-past next.End at from long h e = tt
-ends-past next.Broken at from long h e = tt
+at_start : (bs : List ℕ) → front bs ≡ token_at (drop (start bs) bs)
+at_start [] = refl
+at_start (b ∷ bs) = go (eqb b 32) (at_start bs)
+  where
+    go : (x : Bool) → front bs ≡ token_at (drop (start bs) bs) → cond x (front bs) (token_at (b ∷ bs)) ≡ token_at (drop (cond (not (not x)) (1 + start bs) 0) (b ∷ bs))
+    go true e = let n : suc (start bs) ≡ 1 + start bs = omega arith in e ∙ ap (λ k. token_at (drop k (b ∷ bs))) n
+    go false e = refl
+
+pub no_start : (bs : List ℕ) → position (λ b. not (eqb b 32)) bs ≡ None → front bs ≡ ended
+no_start bs e = at_start bs ∙ ap token_at (drop_all (start bs) bs (go (ltb (start bs) (length bs)) refl e))
+  where
+    go : (x : Bool) → ltb (start bs) (length bs) ≡ x → cond x (Some (start bs)) None ≡ None → length bs ≤ start bs
+    go true h e = cc
+    go false h e = ltb-false (start bs) (length bs) h
+
+pub some_start : (bs : List ℕ) (i : ℕ) → position (λ b. not (eqb b 32)) bs ≡ Some i → front bs ≡ token_at (drop i bs)
+some_start bs i e = at_start bs ∙ ap (λ k. token_at (drop k bs)) (go (ltb (start bs) (length bs)) e)
+  where
+    go : (x : Bool) → cond x (Some (start bs)) None ≡ Some i → start bs ≡ i
+    go true e = cc
+    go false e = cc
+
+-- what is found is followed by less than the whole
+abbrev pub Within : ℕ → Front → Type 0
+Within n ended = Unit {0}
+Within n broken = Unit {0}
+Within n (found t rest) = length rest < n
+
+mark_within : (n : ℕ) (o : Option Mark) (rest : List ℕ) (f : Front) → length rest < n → Within n f → Within n (found_mark o rest f)
+mark_within n None rest f h k = k
+mark_within n (Some m) rest f h k = h
+
+shorter : (b : ℕ) (bs : List ℕ) (n : ℕ) → length (drop (1 + n) (b ∷ bs)) < length (b ∷ bs)
+shorter b bs n = omega (arith, length-drop (1 + n) (b ∷ bs))
+
+word_within : (b : ℕ) (bs : List ℕ) → Within (length (b ∷ bs)) (word_at (b ∷ bs))
+word_within b bs =
+    let n = prefix_len capital bs in
+    elim (capital b) as (λ x. let k = cond x (1 + prefix_len capital bs) 0 in Within (length (b ∷ bs)) (found_mark (word (take k (b ∷ bs))) (drop k (b ∷ bs)) broken)) [
+      | true ↦ mark_within _ (word (take (1 + n) (b ∷ bs))) (drop (1 + n) (b ∷ bs)) broken (shorter b bs n) tt
+      | false ↦ tt
+    ]
+
+name_within : (b : ℕ) (bs : List ℕ) → Within (length (b ∷ bs)) (name_at (b ∷ bs))
+name_within b bs =
+    let n = prefix_len name_byte bs in
+    elim (name_byte b) as (λ x. let k = cond x (1 + prefix_len name_byte bs) 0 in let w = take k (b ∷ bs) in Within (length (b ∷ bs)) (cond (is_name w) (found (name w) (drop k (b ∷ bs))) broken)) [
+      | true ↦ elim (is_name (take (1 + n) (b ∷ bs))) as (λ x. Within (length (b ∷ bs)) (cond x (found (name (take (1 + n) (b ∷ bs))) (drop (1 + n) (b ∷ bs))) broken)) [ true ↦ shorter b bs n | false ↦ tt ]
+      | false ↦ tt
+    ]
+
+pub token_within : (bs : List ℕ) → Within (length bs) (token_at bs)
+token_within [] = tt
+token_within (b ∷ bs) =
+    mark_within (length (b ∷ bs)) (option_map signed (sign b)) bs _ (omega arith)
+    (elim (capital b) as (λ x. Within (length (b ∷ bs)) (cond x (word_at (b ∷ bs)) (name_at (b ∷ bs)))) [ true ↦ word_within b bs | false ↦ name_within b bs ])

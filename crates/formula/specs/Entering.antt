@@ -1,5 +1,6 @@
 -- What entering a text does.
-use Rattle.std.specs.Prelude.{◌≡◌, ℕ, ◌+◌, ◌-◌, ◌<◌, Bool, true, false, cond, ◌&&◌, List, [], ◌∷◌, ◌++◌, length, is_some, Some, None, Ok, Err, Option, Result, nat_le, nat_lt}
+use Rattle.std.specs.Prelude.{◌≡◌, ℕ, ◌+◌, ◌-◌, ◌<◌, Bool, true, false, cond, ◌&&◌, List, ◌++◌, length, is_some, Some, None, Ok, Err, Option, Result, nat_le, nat_lt}
+use Rattle.std.specs.List.{list_all}
 use Rattle.base.specs.Listing.{action_of}
 use Rattle.base.specs.declared.refusal.Refusal.{Refusal}
 use Rattle.base.specs.declared.refusal.Refusal.TheVariants.{Grammar, Nameless, Full}
@@ -18,8 +19,7 @@ is_listed names (mark m) = true
 is_listed names (name w) = is_some (action_of w names)
 
 abbrev pub all_listed : List (List ℕ) → List Tok → Bool
-all_listed names [] = true
-all_listed names (t ∷ ts) = is_listed names t && all_listed names ts
+all_listed names ts = list_all (is_listed names) ts
 
 -- a text has 1 to 1,024 bytes
 abbrev pub fits : List ℕ → Bool
@@ -55,7 +55,7 @@ pub record Checked (names : List (List ℕ)) (ts : List Tok) (before : List Shap
   pub tree : Tree
   pub is : tree_of ts ≡ Some tree
   pub answer : verdict names (length before) ts tree ≡ Ok e.root
-  pub written : Written names tree before (shapes e.nodes.table e.nodes.count) e.root
+  pub written : Written names tree before (shapes e.nodes) e.root
 
 -- and of a text
 pub record Planned (names : List (List ℕ)) (text : List ℕ) (before : List Shape) (e : Entry) : Type 0 where
@@ -68,16 +68,25 @@ pub record Planned (names : List (List ℕ)) (text : List ℕ) (before : List Sh
 pub record Refused (names : List (List ℕ)) (text : List ℕ) (count : ℕ) (e : Refusal) : Type 0 where
   pub why : cond (fits text) (verdict_at names count (tokens_of text)) (Err Grammar) ≡ Err e
 
+-- what the two checks answer
+abbrev pub ChecksTokens : List (List ℕ) → List Tok → List Shape → Result Entry Refusal → Type 0
+ChecksTokens names ts before (Ok e) = Checked names ts before e
+ChecksTokens names ts before (Err e) = verdict_on names (length before) ts (tree_of ts) ≡ Err e
+
+abbrev pub Checks : List (List ℕ) → List ℕ → List Shape → Result Entry Refusal → Type 0
+Checks names text before (Ok e) = Planned names text before e
+Checks names text before (Err e) = Refused names text (length before) e
+
 -- What entering does, for each text, label list and table of nodes.
 pub record Entered (text : List ℕ) (names : List (List ℕ)) (before after : Nodes) (r : Result ℕ Refusal) : Type 0 where
   -- 5 first, for an empty text or one that is too long, and for one that is no formula
   pub oversized : fits text ≡ false → r ≡ Err Grammar
   pub unformed : ((t : Tree) → Says text t → ⊥) → r ≡ Err Grammar
   -- else the verdict on the formula that the text is
-  pub formed : fits text ≡ true → (t : Tree) (d : Says text t) → r ≡ verdict names (length (shapes before.table before.count)) d.tokens t
+  pub formed : fits text ≡ true → (t : Tree) (d : Says text t) → r ≡ verdict names (length (shapes before)) d.tokens t
   -- its nodes stand past those before, which are as they were; its number decodes to it
-  pub written : (root : ℕ) → r ≡ Ok root → (t : Tree) → Says text t → Written names t (shapes before.table before.count) (shapes after.table after.count) root
+  pub written : (root : ℕ) → r ≡ Ok root → (t : Tree) → Says text t → Written names t (shapes before) (shapes after) root
   -- earlier numbers decode as they did
-  pub earlier : (k : ℕ) → k < length (shapes before.table before.count) → formula_at (shapes after.table after.count) k ≡ formula_at (shapes before.table before.count) k
+  pub earlier : (k : ℕ) → k < length (shapes before) → formula_at (shapes after) k ≡ formula_at (shapes before) k
   -- a refusal alters nothing
   pub unaltered : (e : Refusal) → r ≡ Err e → after ≡ before

@@ -1,11 +1,13 @@
 -- Formulas in a table of nodes, children first.
 use Rattle.std.specs.Prelude.{ℕ, ◌-◌, cond, List, [], ◌∷◌, ◌++◌, map, length, take, Some, None, Option, nat_lt, slice_index_or}
+use Rattle.std.specs.Option.{option_map}
 use Rattle.formula.specs.declared.mark.Operator.{Operator}
 use Rattle.formula.specs.declared.mark.Quantifier.{Quantifier}
 use Rattle.formula.specs.declared.mark.Link.{Link}
 use Rattle.formula.specs.declared.node.Node.{Node}
 use Rattle.formula.specs.declared.node.Node.TheVariants as node
 use Rattle.formula.specs.declared.nodes.Draft.{Draft}
+use Rattle.formula.specs.declared.nodes.Nodes.{Nodes}
 use Rattle.formula.specs.Choosing.{set_of}
 use Rattle.formula.specs.Formulas.{Actions, Formula, TRUE, FALSE, NOT, AND, OR, short, path}
 use Rattle.base.specs.Sets.{holds}
@@ -32,8 +34,8 @@ shape (node.Short o c k) = short_node o (holds c) k
 shape (node.Path q l c k d m) = path_node q l (holds c) k (holds d) m
 
 -- the nodes in use
-abbrev pub shapes : List Node → ℕ → List Shape
-shapes table count = map shape (take count table)
+abbrev pub shapes : Nodes → List Shape
+shapes n = map shape (take n.count n.table)
 
 -- the formula of a node, by the formulas of the nodes before it
 abbrev pub build : List Formula → Shape → Formula
@@ -59,7 +61,7 @@ abbrev pub DraftState : Type 0
 DraftState = Option (List Shape)
 
 abbrev pub drafted : Draft → DraftState
-drafted d = cond d.full None (Some (shapes d.nodes.table d.nodes.count))
+drafted d = option_map shapes d.nodes
 
 abbrev pub push : DraftState → Shape → DraftState
 push None x = None

@@ -8,6 +8,7 @@ pub mod Grammar
 pub mod Laying
 pub mod Places
 pub mod Reading
+pub mod Texts
 pub mod Tokens
 pub mod Trees
 pub mod Lexes

@@ -1,12 +1,10 @@
-ghost use Rattle.std.specs.Prelude.{◌≡◌, Bool, true, false, List, map, length, Ok, Err, MatchResult};
+ghost use Rattle.std.specs.Prelude.{◌≡◌, map};
 ghost use Rattle.base.specs.Labels.{listed};
-ghost use Rattle.formula.specs.Entering.{is_listed, all_listed, verdict_on, Whole, Checked, Planned, Refused, Entered};
+ghost use Rattle.formula.specs.Entering.{is_listed, all_listed, Whole, ChecksTokens, Checks, Entered};
 ghost use Rattle.formula.specs.Laying.{drafted, shapes};
-ghost use Rattle.formula.specs.Reading.{tree_of};
 ghost use Rattle.formula.specs.Tokens.{tok};
 
 use crate::lexer::lex;
-use crate::mark::Mark;
 use crate::nodes::{Draft, Entry, Nodes};
 use crate::reader::any_of;
 use crate::token::Token;
@@ -29,12 +27,7 @@ fn is_listed(token: Token, labels: &Labels) -> bool
 fn all_listed(tokens: &[Token], labels: &Labels) -> bool
     ensures { result ≡ all_listed (listed labels.now) (map tok tokens.now) }
 {
-    for i in 0..tokens.len() {
-        if !is_listed(tokens[i], labels) {
-            return false;
-        }
-    }
-    true
+    tokens.iter().all(|token| is_listed(*token, labels))
 }
 
 // Writes the formula that the tokens are as a whole, and says its number.
@@ -50,36 +43,26 @@ fn whole(tokens: &[Token], labels: &Labels, draft: &mut Draft) -> Option<usize>
 
 // Checks the tokens of a text over a copy of the nodes.
 fn check_tokens(tokens: &[Token], labels: &Labels, nodes: &Nodes) -> Result<Entry, Refusal>
-    ensures { MatchResult result (λ e. Checked (listed labels.now) (map tok tokens.now) (shapes nodes.now.table nodes.now.count) e) (λ e. verdict_on (listed labels.now) (length (shapes nodes.now.table nodes.now.count)) (map tok tokens.now) (tree_of (map tok tokens.now)) ≡ Err e) }
+    ensures { ChecksTokens (listed labels.now) (map tok tokens.now) (shapes nodes.now) result }
 {
     let mut draft = Draft::over(nodes);
-    let Some(root) = whole(tokens, labels, &mut draft) else {
-        return Err(Refusal::Grammar);
-    };
+    let root = whole(tokens, labels, &mut draft).ok_or(Refusal::Grammar)?;
     if !all_listed(tokens, labels) {
         return Err(Refusal::Nameless);
     }
-    if draft.full {
-        return Err(Refusal::Full);
-    }
-    Ok(Entry {
-        nodes: draft.nodes,
-        root,
-    })
+    let nodes = draft.nodes.ok_or(Refusal::Full)?;
+    Ok(Entry { nodes, root })
 }
 
 // Checks a text, and alters nothing.
 fn check(text: &[u8], labels: &Labels, nodes: &Nodes) -> Result<Entry, Refusal>
-    ensures { MatchResult result (λ e. Planned (listed labels.now) text.now (shapes nodes.now.table nodes.now.count) e) (λ e. Refused (listed labels.now) text.now (length (shapes nodes.now.table nodes.now.count)) e) }
+    ensures { Checks (listed labels.now) text.now (shapes nodes.now) result }
 {
-    if text.len() < 1 || text.len() > MOST_BYTES {
+    if text.is_empty() || text.len() > MOST_BYTES {
         return Err(Refusal::Grammar);
     }
-    let mut room = [Token::Mark(Mark::True); 1024];
-    match lex(text, &mut room) {
-        Some(count) => check_tokens(&room[0..count], labels, nodes),
-        None => Err(Refusal::Grammar),
-    }
+    let tokens = lex(text)?;
+    check_tokens(tokens.as_slice(), labels, nodes)
 }
 
 // Enters a text: writes its nodes past those before, and says the number of its formula.

@@ -1,51 +1,30 @@
-ghost use Rattle.std.specs.Prelude.{◌≡◌, ◌+◌, ◌-◌, ◌<◌, ◌≤◌, Bool, true, false, map, length, take, drop, Some, None, MatchOption, ◌==◌, slice_index, slice_range};
-ghost use Rattle.std.specs.Str.{bytes_eq};
-ghost use Rattle.formula.specs.Tokens.{sign, operator, word, in_run, run, past, front, word_from, name_from, token_from, seen, Ends, tok, tokens_of};
+ghost use Rattle.std.specs.Prelude.{◌≡◌, ◌<◌, ◌≤◌, map, length, IfNone, IfSome, IfOk, IfErr, OnErr};
+ghost use Rattle.std.specs.List.{prefix_len};
+ghost use Rattle.std.specs.Iterator.{at_most};
+ghost use Rattle.base.specs.Names.{name_byte};
+ghost use Rattle.base.specs.declared.refusal.Refusal.TheVariants.{Grammar};
+ghost use Rattle.formula.specs.Tokens.{capital, sign, word, word_at, name_at, token_at, ended, front, Cuts, Steps, tok, tokens_of};
 
+use crate::enter::MOST_BYTES;
 use crate::mark::{Link, Mark, Operator, Quantifier, Sign};
-use crate::token::{Next, Token};
+use crate::token::Token;
+use arrayvec::ArrayVec;
 use base::name::Name;
+use base::refusal::Refusal;
 use base::spelling::{is_name, is_name_byte};
 
-// The sign that a character is, if it is one.
-fn sign_of(character: char) -> Option<Sign>
-    ensures { result ≡ sign character }
+// The sign that a byte is, if it is one.
+fn sign_of(byte: u8) -> Option<Sign>
+    ensures { result ≡ sign byte }
 {
-    match character {
-        '(' => Some(Sign::Open),
-        ')' => Some(Sign::Close),
-        '[' => Some(Sign::BracketOpen),
-        ']' => Some(Sign::BracketClose),
-        '{' => Some(Sign::BraceOpen),
-        '}' => Some(Sign::BraceClose),
+    match byte {
+        b'(' => Some(Sign::Open),
+        b')' => Some(Sign::Close),
+        b'[' => Some(Sign::BracketOpen),
+        b']' => Some(Sign::BracketClose),
+        b'{' => Some(Sign::BraceOpen),
+        b'}' => Some(Sign::BraceClose),
         _ => None,
-    }
-}
-
-fn spells(letters: &[u8], word: &[u8]) -> bool
-    ensures { result ≡ bytes_eq letters.now word.now }
-{
-    letters == word
-}
-
-// The two-letter operator that a word is, if it is one.
-fn operator_of(letters: &[u8]) -> Option<Operator>
-    ensures { result ≡ operator letters.now }
-{
-    if spells(letters, b"EX") {
-        Some(Operator::Ex)
-    } else if spells(letters, b"EF") {
-        Some(Operator::Ef)
-    } else if spells(letters, b"EG") {
-        Some(Operator::Eg)
-    } else if spells(letters, b"AX") {
-        Some(Operator::Ax)
-    } else if spells(letters, b"AF") {
-        Some(Operator::Af)
-    } else if spells(letters, b"AG") {
-        Some(Operator::Ag)
-    } else {
-        None
     }
 }
 
@@ -53,149 +32,134 @@ fn operator_of(letters: &[u8]) -> Option<Operator>
 fn word_of(letters: &[u8]) -> Option<Mark>
     ensures { result ≡ word letters.now }
 {
-    if spells(letters, b"TRUE") {
-        Some(Mark::True)
-    } else if spells(letters, b"FALSE") {
-        Some(Mark::False)
-    } else if spells(letters, b"TAU") {
-        Some(Mark::Tau)
-    } else if spells(letters, b"NOT") {
-        Some(Mark::Not)
-    } else if spells(letters, b"AND") {
-        Some(Mark::Sign(Sign::And))
-    } else if spells(letters, b"OR") {
-        Some(Mark::Sign(Sign::Or))
-    } else if spells(letters, b"E") {
-        Some(Mark::Path(Quantifier::Some))
-    } else if spells(letters, b"A") {
-        Some(Mark::Path(Quantifier::Every))
-    } else if spells(letters, b"U") {
-        Some(Mark::Between(Link::Until))
-    } else if spells(letters, b"W") {
-        Some(Mark::Between(Link::Unless))
-    } else {
-        match operator_of(letters) {
-            Some(operator) => Some(Mark::Short(operator)),
-            None => None,
-        }
+    match letters {
+        b"TRUE" => Some(Mark::True),
+        b"FALSE" => Some(Mark::False),
+        b"TAU" => Some(Mark::Tau),
+        b"NOT" => Some(Mark::Not),
+        b"AND" => Some(Mark::Sign(Sign::And)),
+        b"OR" => Some(Mark::Sign(Sign::Or)),
+        b"E" => Some(Mark::Path(Quantifier::Some)),
+        b"A" => Some(Mark::Path(Quantifier::Every)),
+        b"U" => Some(Mark::Between(Link::Until)),
+        b"W" => Some(Mark::Between(Link::Unless)),
+        b"EX" => Some(Mark::Short(Operator::Ex)),
+        b"EF" => Some(Mark::Short(Operator::Ef)),
+        b"EG" => Some(Mark::Short(Operator::Eg)),
+        b"AX" => Some(Mark::Short(Operator::Ax)),
+        b"AF" => Some(Mark::Short(Operator::Af)),
+        b"AG" => Some(Mark::Short(Operator::Ag)),
+        _ => None,
     }
 }
 
-// What a run is made of: the capitals of a word, or the bytes of a name.
+// How many capitals a text begins with.
+fn capitals(text: &[u8]) -> usize
+    ensures value { result ≡ prefix_len capital text.now }
+    ensures fits { result ≤ length text.now }
+{
+    text.iter()
+        .take_while(|byte| byte.is_ascii_uppercase())
+        .count()
+}
+
+// How many bytes a text begins with that may stand in a name.
+fn name_bytes(text: &[u8]) -> usize
+    ensures value { result ≡ prefix_len name_byte text.now }
+    ensures fits { result ≤ length text.now }
+{
+    text.iter().take_while(|byte| is_name_byte(**byte)).count()
+}
+
+// The word that a text begins with, and the text after it.
+fn word_at(text: &[u8]) -> Result<(Token, &[u8]), Refusal>
+    ensures { Cuts (word_at text.now) result }
+{
+    let (letters, rest) = text.split_at(capitals(text));
+    let mark = word_of(letters).ok_or(Refusal::Grammar)?;
+    Ok((Token::Mark(mark), rest))
+}
+
+// The name that a text begins with, and the text after it.
+fn name_at(text: &[u8]) -> Result<(Token, &[u8]), Refusal>
+    ensures { Cuts (name_at text.now) result }
+{
+    let (name, rest) = text.split_at(name_bytes(text));
+    if !is_name(name) {
+        return Err(Refusal::Grammar);
+    }
+    Ok((Token::Name(Name::of(name)), rest))
+}
+
+// The token that a text begins with, and the text after it.
+fn token_at(text: &[u8]) -> Result<(Token, &[u8]), Refusal>
+    requires { 0 < length text.now }
+    ensures { Cuts (token_at text.now) result }
+{
+    match sign_of(text[0]) {
+        Some(sign) => Ok((Token::Mark(Mark::Sign(sign)), &text[1..])),
+        None if text[0].is_ascii_uppercase() => word_at(text),
+        None => name_at(text),
+    }
+}
+
+// A text from its first byte on that is no space, if there is one.
+fn past_spaces(text: &[u8]) -> Option<&[u8]>
+    ensures none { IfNone result (front text.now ≡ ended) }
+    ensures some { IfSome result (λ rest. front text.now ≡ token_at rest.now) }
+    ensures begins { IfSome result (λ rest. 0 < length rest.now) }
+    ensures within { IfSome result (λ rest. length rest.now ≤ length text.now) }
+{
+    let start = text.iter().position(|byte| *byte != b' ')?;
+    Some(&text[start..])
+}
+
+// The tokens of a text, one after another. Bytes that are no token are refused, and nothing comes after them.
 #[derive(Clone, Copy)]
-enum Run {
-    Capitals,
-    NameBytes,
+pub struct Lexer<'a> {
+    rest: &'a [u8],
 }
 
-// Whether a byte goes on with the run.
-fn belongs(run: Run, byte: u8) -> bool
-    ensures { result ≡ in_run run byte }
-{
-    match run {
-        Run::Capitals => matches!(byte, b'A'..=b'Z'),
-        Run::NameBytes => is_name_byte(byte),
+impl<'a> Lexer<'a> {
+    // Over the whole of a text.
+    pub fn over(text: &'a [u8]) -> Lexer<'a>
+        ensures { result.rest.now ≡ text.now }
+    {
+        Lexer { rest: text }
     }
 }
 
-// The place after the run that goes on at a place.
-fn run_end(text: &[u8], from: usize, kind: Run) -> usize
-    requires { from ≤ length text.now }
-    ensures taken { run (in_run kind) (drop from text.now) ≡ slice_range text.now from result }
-    ensures rest { past (in_run kind) (drop from text.now) ≡ drop result text.now }
-    ensures bounds { (from ≤ result) × (result ≤ length text.now) }
-{
-    for end in from..text.len() {
-        if !belongs(kind, text[end]) {
-            return end;
-        }
-    }
-    text.len()
-}
+impl<'a> Iterator for Lexer<'a> {
+    type Item = Result<Token, Refusal>;
 
-// The place of the first byte from a place on that is no space.
-fn skip_spaces(text: &[u8], from: usize) -> usize
-    ensures same { front (drop from text.now) ≡ front (drop result text.now) }
-    ensures stops { result < length text.now → (slice_index text.now result == 32) ≡ false }
-    ensures bounds { from ≤ result }
-{
-    for at in from..text.len() {
-        if text[at] != b' ' {
-            return at;
-        }
-    }
-    from.max(text.len())
-}
+    ghost next_gives = { λ s r t. Steps (front s.rest.now) r t.rest.now };
 
-// The word that begins at a place.
-fn word_at(text: &[u8], at: usize) -> Next
-    requires { at < length text.now }
-    ensures { (seen text.now result ≡ word_from (slice_index text.now at) (drop (at + 1) text.now)) × (Ends result at (length text.now)) }
-{
-    let end = run_end(text, at + 1, Run::Capitals);
-    match word_of(&text[at..end]) {
-        Some(mark) => Next::Found(Token::Mark(mark), end),
-        None => Next::Broken,
-    }
-}
+    ghost remaining = { λ s. at_most (length s.rest.now) };
 
-// The name that begins at a place.
-fn name_at(text: &[u8], at: usize) -> Next
-    requires { at < length text.now }
-    ensures { (seen text.now result ≡ name_from (slice_index text.now at) (drop (at + 1) text.now)) × (Ends result at (length text.now)) }
-{
-    let end = run_end(text, at + 1, Run::NameBytes);
-    let name = &text[at..end];
-    if is_name(name) {
-        Next::Found(Token::Name(Name::of(name)), end)
-    } else {
-        Next::Broken
-    }
-}
-
-// The token that begins at a place.
-fn token_at(text: &[u8], at: usize) -> Next
-    requires { at < length text.now }
-    ensures { (seen text.now result ≡ token_from (slice_index text.now at) (drop (at + 1) text.now)) × (Ends result at (length text.now)) }
-{
-    let byte = text[at];
-    match sign_of(byte as char) {
-        Some(sign) => Next::Found(Token::Mark(Mark::Sign(sign)), at + 1),
-        None => if belongs(Run::Capitals, byte) {
-            word_at(text, at)
-        } else {
-            name_at(text, at)
-        },
-    }
-}
-
-// The token after a place, and the place after it.
-pub fn next_token(text: &[u8], from: usize) -> Next
-    ensures { (seen text.now result ≡ front (drop from text.now)) × (Ends result from (length text.now)) }
-{
-    let at = skip_spaces(text, from);
-    if at >= text.len() {
-        return Next::End;
-    }
-    token_at(text, at)
-}
-
-// Writes the tokens of a text into a list that has room for as many as there are bytes, and says how many there are.
-pub(crate) fn lex(text: &[u8], tokens: &mut [Token]) -> Option<usize>
-    requires { length text.now ≤ length tokens.old }
-    ensures { MatchOption result (tokens_of text.now ≡ None) (λ n. (tokens_of text.now ≡ Some (map tok (take n tokens.new))) × (n ≤ length tokens.new)) }
-{
-    let mut at = 0;
-    let mut count = 0;
-    loop {
-        match next_token(text, at) {
-            Next::End => return Some(count),
-            Next::Broken => return None,
-            Next::Found(token, end) => {
-                tokens[count] = token;
-                count += 1;
-                at = end;
+    fn next(&mut self) -> Option<Result<Token, Refusal>> {
+        match token_at(past_spaces(self.rest)?) {
+            Ok((token, rest)) => {
+                self.rest = rest;
+                Some(Ok(token))
+            }
+            Err(refusal) => {
+                self.rest = &[];
+                Some(Err(refusal))
             }
         }
     }
+}
+
+// The tokens of a text, of which there are no more than bytes.
+pub(crate) fn lex(text: &[u8]) -> Result<ArrayVec<Token, MOST_BYTES>, Refusal>
+    requires { length text.now ≤ MOST_BYTES }
+    ensures tokens { IfOk result (λ tokens. tokens_of text.now ≡ Some (map tok tokens.items)) }
+    ensures none { OnErr result (tokens_of text.now ≡ None) }
+    ensures refusal { IfErr result (λ e. e ≡ Grammar) }
+{
+    let mut tokens = ArrayVec::new();
+    for token in Lexer::over(text) {
+        tokens.push(token?);
+    }
+    Ok(tokens)
 }

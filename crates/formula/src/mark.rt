@@ -1,5 +1,10 @@
+ghost use Rattle.std.specs.Prelude.{Some};
+ghost use Rattle.formula.specs.Texts.{operator_text, quantifier_text, link_text};
+
+use std::fmt;
+
 // The operators with one part: a quantifier (E some path, A every path) and X (the next step), F (some step) or G (every step).
-#[derive(Clone, Copy, PartialEq)]
+#[derive(Clone, Copy, PartialEq, Eq, Debug)]
 pub enum Operator {
     Ex,
     Ef,
@@ -9,22 +14,59 @@ pub enum Operator {
     Ag,
 }
 
+impl fmt::Display for Operator {
+    ghost output = { λ o. Some (operator_text o) };
+
+    fn fmt<W: fmt::Write>(&self, f: &mut fmt::Formatter<W>) -> fmt::Result {
+        match self {
+            Operator::Ex => write!(f, "EX"),
+            Operator::Ef => write!(f, "EF"),
+            Operator::Eg => write!(f, "EG"),
+            Operator::Ax => write!(f, "AX"),
+            Operator::Af => write!(f, "AF"),
+            Operator::Ag => write!(f, "AG"),
+        }
+    }
+}
+
 // Some path (the word E) or every path (the word A).
-#[derive(Clone, Copy, PartialEq)]
+#[derive(Clone, Copy, PartialEq, Eq, Debug)]
 pub enum Quantifier {
     Some,
     Every,
 }
 
+impl fmt::Display for Quantifier {
+    ghost output = { λ q. Some (quantifier_text q) };
+
+    fn fmt<W: fmt::Write>(&self, f: &mut fmt::Formatter<W>) -> fmt::Result {
+        match self {
+            Quantifier::Some => write!(f, "E"),
+            Quantifier::Every => write!(f, "A"),
+        }
+    }
+}
+
 // What stands between the two parts in brackets: U or W.
-#[derive(Clone, Copy, PartialEq)]
+#[derive(Clone, Copy, PartialEq, Eq, Debug)]
 pub enum Link {
     Until,
     Unless,
 }
 
+impl fmt::Display for Link {
+    ghost output = { λ l. Some (link_text l) };
+
+    fn fmt<W: fmt::Write>(&self, f: &mut fmt::Formatter<W>) -> fmt::Result {
+        match self {
+            Link::Until => write!(f, "U"),
+            Link::Unless => write!(f, "W"),
+        }
+    }
+}
+
 // What holds formulas together: the brackets of the three kinds, and the words AND and OR.
-#[derive(Clone, Copy)]
+#[derive(Clone, Copy, PartialEq, Eq, Debug)]
 pub enum Sign {
     Open,
     Close,
@@ -37,7 +79,7 @@ pub enum Sign {
 }
 
 // The signs and the words of the language.
-#[derive(Clone, Copy)]
+#[derive(Clone, Copy, PartialEq, Eq, Debug)]
 pub enum Mark {
     Sign(Sign),
     True,

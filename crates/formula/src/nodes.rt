@@ -5,17 +5,17 @@ use crate::node::Node;
 // The nodes of the formulas so far, at most 48; each stands after those below it.
 #[derive(Clone, Copy)]
 pub struct Nodes {
+    // kept: an `ArrayVec` is not `Copy`, as this type is to its callers, and a `Model` that is `Copy` would show the unused rows too.
     pub(crate) table: [Node; 48],
     pub(crate) count: usize,
     ghost rows: { length table ≡ 48 },
     ghost few: { count ≤ 48 },
 }
 
-// A copy that a formula is written into; `full` once a node found no room.
+// A copy that a formula is written into; none once a node found no room.
 #[derive(Clone, Copy)]
 pub struct Draft {
-    pub(crate) nodes: Nodes,
-    pub(crate) full: bool,
+    pub(crate) nodes: Option<Nodes>,
 }
 
 // What a text that is not refused makes of the nodes, and the number of its formula.

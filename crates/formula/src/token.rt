@@ -1,3 +1,7 @@
+ghost use Rattle.std.specs.Prelude.{◌≡◌};
+ghost use Rattle.formula.specs.declared.mark.Mark.TheVariants.{True};
+ghost use Rattle.formula.specs.declared.token.Token.TheVariants.{Mark};
+
 use crate::mark::Mark;
 use base::name::Name;
 
@@ -8,10 +12,11 @@ pub enum Token {
     Name(Name),
 }
 
-// What comes next in a text: a token with the place after it, the end, or what is no token.
-#[derive(Clone, Copy)]
-pub enum Next {
-    Found(Token, usize),
-    End,
-    Broken,
+// What stands in the unused places of a list of tokens.
+impl Default for Token {
+    ghost is_default = { λ t. t ≡ Mark True };
+
+    fn default() -> Token {
+        Token::Mark(Mark::True)
+    }
 }

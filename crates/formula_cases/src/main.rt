@@ -7,11 +7,10 @@ use base::action_set::ActionSet;
 use base::labels::Labels;
 use base::refusal::Refusal;
 use formula::enter::enter;
-use formula::mark::{Link, Operator, Quantifier};
 use formula::node::Node;
 use formula::nodes::Nodes;
 use std::alloc::{AllocError, Global};
-use std::io;
+use std::{fmt, io};
 
 fn hex(digit: u8) -> u8 {
     match digit {
@@ -24,122 +23,89 @@ fn hex(digit: u8) -> u8 {
 // The bytes that a line stands for.
 fn decode(heap: Global, line: &str) -> Result<Vec<u8>, AllocError> {
     let mut text = Vec::new(heap);
-    let mut left = 0u8;
-    let mut byte = 0u8;
-    for next in line.bytes() {
-        match left {
-            0 if next == b'\\' => left = 3,
-            0 => text.push(next)?,
-            3 => left = 2,
-            2 => {
-                byte = hex(next);
-                left = 1;
-            }
-            _ => {
-                text.push(byte.wrapping_mul(16) | hex(next))?;
-                left = 0;
-            }
-        }
+    let mut rest = line.as_bytes();
+    loop {
+        let (byte, after) = match rest {
+            [] => return Ok(text),
+            [b'\\', b'x', high, low, after @ ..] => (
+                hex(*high).wrapping_mul(16) | hex(*low),
+                after,
+            ),
+            [byte, after @ ..] => (*byte, after),
+        };
+        text.push(byte)?;
+        rest = after;
     }
-    Ok(text)
 }
 
 fn names() -> Result<Labels, Refusal> {
     let mut labels = Labels::fresh();
-    labels.add(b"a")?;
-    labels.add(b"b")?;
-    labels.add(b"c")?;
-    labels.add(b"abcdefghijklmnop")?;
+    for name in ["a", "b", "c", "abcdefghijklmnop"] {
+        labels.add(name.as_bytes())?;
+    }
     Ok(labels)
 }
 
-// A set of actions: those that it holds, or after a tilde those that it lacks.
-fn print_set(rt: &HostRuntime, set: ActionSet) -> io::Result<()> {
-    let most = set.has(63);
-    rt.print(if most { "~{" } else { "{" })?;
-    for action in 0..64u8 {
-        if set.has(action) != most {
-            print!(rt; " {action}")?;
+// A set of actions as it is printed: those that it holds, or after a tilde those that it lacks.
+#[derive(Clone, Copy)]
+struct Actions(ActionSet);
+
+impl fmt::Display for Actions {
+    fn fmt<W: fmt::Write>(&self, f: &mut fmt::Formatter<W>) -> fmt::Result {
+        let Actions(set) = *self;
+        let most = set.has(63);
+        write!(f, "{}", if most { "~{" } else { "{" })?;
+        for action in 0..64 {
+            if set.has(action) != most {
+                write!(f, " {action}")?;
+            }
+        }
+        write!(f, " }}")
+    }
+}
+
+// A node as it is printed.
+#[derive(Clone, Copy)]
+struct Shown(Node);
+
+impl fmt::Display for Shown {
+    fn fmt<W: fmt::Write>(&self, f: &mut fmt::Formatter<W>) -> fmt::Result {
+        let Shown(node) = *self;
+        match node {
+            Node::True => write!(f, "TRUE"),
+            Node::False => write!(f, "FALSE"),
+            Node::Not(child) => write!(f, "NOT {child}"),
+            Node::And(left, right) => write!(f, "AND {left} {right}"),
+            Node::Or(left, right) => write!(f, "OR {left} {right}"),
+            Node::Short {
+                operator,
+                actions,
+                child,
+            } => write!(f, "{operator}{} {child}", Actions(actions)),
+            Node::Path {
+                quantifier,
+                link,
+                first,
+                left,
+                second,
+                right,
+            } => {
+                let first = Actions(first);
+                let second = Actions(second);
+                write!(f, "{quantifier}[{first} {left} {link} {second} {right}]")
+            }
         }
     }
-    rt.print(" }")
-}
-
-fn word(operator: Operator) -> &'static str {
-    match operator {
-        Operator::Ex => "EX",
-        Operator::Ef => "EF",
-        Operator::Eg => "EG",
-        Operator::Ax => "AX",
-        Operator::Af => "AF",
-        Operator::Ag => "AG",
-    }
-}
-
-fn print_path(
-    rt: &HostRuntime,
-    quantifier: Quantifier,
-    link: Link,
-    parts: [(ActionSet, usize); 2],
-) -> io::Result<()> {
-    let [(first, left), (second, right)] = parts;
-    rt.print(match quantifier {
-        Quantifier::Some => "E[",
-        Quantifier::Every => "A[",
-    })?;
-    print_set(rt, first)?;
-    print!(rt; " {left} ")?;
-    rt.print(match link {
-        Link::Until => "U ",
-        Link::Unless => "W ",
-    })?;
-    print_set(rt, second)?;
-    print!(rt; " {right}]")
-}
-
-fn print_node(rt: &HostRuntime, node: Node) -> io::Result<()> {
-    match node {
-        Node::True => rt.print("TRUE"),
-        Node::False => rt.print("FALSE"),
-        Node::Not(child) => print!(rt; "NOT {child}"),
-        Node::And(left, right) => print!(rt; "AND {left} {right}"),
-        Node::Or(left, right) => print!(rt; "OR {left} {right}"),
-        Node::Short {
-            operator,
-            actions,
-            child,
-        } => {
-            rt.print(word(operator))?;
-            print_set(rt, actions)?;
-            print!(rt; " {child}")
-        }
-        Node::Path {
-            quantifier,
-            link,
-            first,
-            left,
-            second,
-            right,
-        } => print_path(rt, quantifier, link, [(first, left), (second, right)]),
-    }
-}
-
-fn print_nodes(rt: &HostRuntime, nodes: &Nodes) -> io::Result<()> {
-    for i in 0..nodes.count() {
-        if let Some(node) = nodes.node(i) {
-            print!(rt; "{i}: ")?;
-            print_node(rt, node)?;
-            rt.print("; ")?;
-        }
-    }
-    Ok(())
 }
 
 fn run(rt: &HostRuntime, text: &[u8], labels: &Labels) -> io::Result<()> {
     let mut nodes = Nodes::fresh();
     match enter(&mut nodes, text, labels) {
         Ok(root) => {
-            print_nodes(rt, &nodes)?;
+            for (number, node) in nodes.as_slice().iter().enumerate() {
+                let node = Shown(*node);
+                print!(rt; "{number}: {node}; ")?;
+            }
             println!(rt; "formula {root}")
         }
         Err(why) => {
@@ -151,10 +117,7 @@ fn run(rt: &HostRuntime, text: &[u8], labels: &Labels) -> io::Result<()> {
 }
 
 fn main(rt: HostRuntime) -> anyhow::Result<()> {
-    let labels = match names() {
-        Ok(labels) => labels,
-        Err(why) => return Err(anyhow!(why.word())),
-    };
+    let labels = names().map_err(|why| anyhow!(why.word()))?;
     for line in rt.lines(rt.alloc()) {
         let line = line?;
         let text = decode(rt.alloc(), line.as_str())?;

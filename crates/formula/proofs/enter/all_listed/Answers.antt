@@ -1,23 +1,16 @@
-use Rattle.std.proofs.Common.{map, refl, ap, ◌∙◌}
+use Rattle.std.proofs.Common.{rules, tests, ◌≡◌, ◌∙◌, sym}
+use Rattle.std.specs.List.{list_all}
+use Rattle.std.proofs.lemmas.List.Folds.{list_all-map}
+use Rattle.std.proofs.lemmas.Iterator.{YieldsList-from_slice}
+use Rattle.std.proofs.lemmas.Iterator.Search.{all_from_yields_List}
 use Rattle.base.specs.Labels.{listed}
-use Rattle.base.proofs.AllOf as every
-use Rattle.formula.specs.Entering.{is_listed, all_listed}
+use Rattle.formula.specs.Entering.{is_listed}
 use Rattle.formula.specs.Tokens.{tok}
 use Rattle.formula.proofs.enter.all_listed.Goals as goal
 
-pub loop-i-preserved : goal.loop-i-preserved
-loop-i-preserved c =
-    let l = c.args.labels.now in let names = listed l in
-    every.passes (λ ts. all_listed names (map tok ts)) (λ x. is_listed names (tok x)) (λ _ _. refl) c.args.tokens.now c.loop-i.i c.index-tokens-i.result c.loop-i-test.true
-    (c.if-not-is_listed.ensures ∙ ap (λ x. is_listed names (tok x)) c.index-tokens-i.is) c.loop-i.invariant
-
-pub returns-then-not-is_listed : goal.returns-then-not-is_listed
-returns-then-not-is_listed c =
-    let l = c.args.labels.now in let names = listed l in
-    every.fails (λ ts. all_listed names (map tok ts)) (λ x. is_listed names (tok x)) (λ _ _. refl) c.args.tokens.now c.loop-i.i c.index-tokens-i.result c.loop-i-test.true
-    (c.if-not-is_listed.ensures ∙ ap (λ x. is_listed names (tok x)) c.index-tokens-i.is) c.loop-i.invariant
-
 pub returns : goal.returns
 returns c =
-    let l = c.args.labels.now in let names = listed l in
-    every.all_passed (λ ts. all_listed names (map tok ts)) (λ x. is_listed names (tok x)) (λ _ _. refl) refl c.args.tokens.now c.loop-i.i c.loop-i-test.false c.loop-i.invariant
+    let names = listed c.args.labels.now in
+    let e : c.all.result ≡ list_all (λ t. is_listed (listed c.args.labels.now) (tok t)) c.args.tokens.now =
+    all_from_yields_List (λ t. is_listed names (tok t)) _ _ c.all.result c.all.ensures.ran (YieldsList-from_slice c.args.tokens.now (cc)) (λ x b q k. search (rules, tests)) in
+    e ∙ sym (list_all-map (is_listed names) tok c.args.tokens.now)

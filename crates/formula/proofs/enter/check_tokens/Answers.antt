@@ -1,28 +1,27 @@
-use Rattle.std.proofs.Common.{◌≤◌, map, length, Some, None, sym, ap, ◌∙◌, arith}
-use Rattle.std.proofs.lemmas.Bool.{cond-true, cond-false}
+use Rattle.std.proofs.Common.{rules, ◌≡◌, map, length, Some, None, Err, ap}
+use Rattle.std.specs.Option.{option_map}
+use Rattle.base.specs.declared.refusal.Refusal.TheVariants.{Full}
 use Rattle.base.specs.Labels.{listed}
-use Rattle.formula.specs.Entering.{verdict_on}
-use Rattle.formula.specs.Laying.{DraftState, shapes, top, lay}
+use Rattle.formula.specs.Entering.{Whole, verdict_on}
+use Rattle.formula.specs.Laying.{shapes, drafted}
+use Rattle.formula.specs.Reading.{tree_of}
 use Rattle.formula.specs.Tokens.{tok}
-use Rattle.formula.proofs.Entries.{over, within}
-use Rattle.formula.proofs.Shapes.{length-shapes}
+use Rattle.formula.proofs.Entries.{full, checked}
 use Rattle.formula.proofs.enter.check_tokens.Goals as goal
 
-pub returns-then-draft : goal.returns-then-draft
-returns-then-draft c =
-    let n = c.args.nodes.now in let l = c.args.labels.now in let names = listed l in let xs = shapes n.table n.count in
-    let ts = map tok c.args.tokens.now in let w = c.in-Some.ensures in let d = c.whole.new.draft in
-    let few : length (shapes c.args.nodes.now.table c.args.nodes.now.count) ≤ 48 = omega (arith, length-shapes n.table n.count n.rows n.few, n.few) in
-    ap (verdict_on names (length xs) ts) w.1
-    ∙ over names ts w.0 xs few c.if-not-all_listed.ensures
-    (sym (w.2 ∙ ap (lay names w.0) c.over-draft.ensures) ∙ cond-true {A = DraftState} d.full None (Some (shapes d.nodes.table d.nodes.count)) c.if-draft.true)
+pub returns-in_err-nodes : goal.returns-in_err-nodes
+returns-in_err-nodes c =
+    let names = listed c.args.labels.now in let ts = map tok c.args.tokens.now in let n = c.args.nodes.now in
+    let root : c.whole.result ≡ Some c.in_ok-root.root = search rules in
+    let none : c.whole.new.draft.nodes ≡ None = search rules in
+    let laid : Whole (listed c.args.labels.now) (map tok c.args.tokens.now) (Some (shapes c.args.nodes.now)) (drafted c.whole.new.draft) (Some c.in_ok-root.root) = search rules in
+    let k : verdict_on (listed c.args.labels.now) (length (shapes c.args.nodes.now)) (map tok c.args.tokens.now) (tree_of (map tok c.args.tokens.now)) ≡ Err Full = full names ts n c.if-not-all_listed.ensures _ _ laid (ap (option_map shapes) none) in
+    search rules
 
 pub returns : goal.returns
 returns c =
-    let n = c.args.nodes.now in let l = c.args.labels.now in let names = listed l in let xs = shapes n.table n.count in
-    let ts = map tok c.args.tokens.now in let w = c.in-Some.ensures in let d = c.whole.new.draft in
-    let few : length (shapes c.args.nodes.now.table c.args.nodes.now.count) ≤ 48 = omega (arith, length-shapes n.table n.count n.rows n.few, n.few) in
-    let is = cond-false {A = DraftState} d.full None (Some (shapes d.nodes.table d.nodes.count)) c.if-draft.false in
-    let k = within names ts w.0 xs few c.if-not-all_listed.ensures (shapes d.nodes.table d.nodes.count) c.in-Some.root
-    (sym (w.2 ∙ ap (lay names w.0) c.over-draft.ensures) ∙ is) (w.3 ∙ ap top is) in
-    record { tree = w.0; is = w.1; answer = k.0; written = k.1 }
+    let names = listed c.args.labels.now in let ts = map tok c.args.tokens.now in let n = c.args.nodes.now in
+    let root : c.whole.result ≡ Some c.in_ok-root.root = search rules in
+    let some : c.whole.new.draft.nodes ≡ Some c.in_ok-nodes.nodes = search rules in
+    let laid : Whole (listed c.args.labels.now) (map tok c.args.tokens.now) (Some (shapes c.args.nodes.now)) (drafted c.whole.new.draft) (Some c.in_ok-root.root) = search rules in
+    checked names ts n c.if-not-all_listed.ensures _ _ laid c.in_ok-nodes.nodes (ap (option_map shapes) some)
