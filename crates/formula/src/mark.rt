@@ -24,7 +24,7 @@ pub enum Link {
 }
 
 // What holds formulas together: the brackets of the three kinds, and the words AND and OR.
-#[derive(Clone, Copy)]
+#[derive(Clone, Copy, PartialEq)]
 pub enum Sign {
     Open,
     Close,
