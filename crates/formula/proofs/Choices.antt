@@ -10,11 +10,13 @@ use Rattle.formula.specs.declared.mark.Mark.TheVariants.{Short, Path, Between}
 use Rattle.formula.specs.declared.mark.Operator.{Operator}
 use Rattle.formula.specs.declared.mark.Quantifier.{Quantifier}
 use Rattle.formula.specs.declared.mark.Sign.TheVariants.{BraceClose}
+use Rattle.formula.specs.declared.token.Token.{Token}
+use Rattle.formula.specs.declared.token.Token.TheVariants as token
 use Rattle.formula.specs.Choosing.{set_of, IsSet, ChoosesBy, Chooses}
 use Rattle.formula.specs.Finding.{Settles}
 use Rattle.formula.specs.Places.{ahead, moved}
 use Rattle.formula.specs.Reading.{past_sign, if_there, ended_by, in_braces, Got, Reader, then, OrLevel, Tight, Reads, action_at, action_rules}
-use Rattle.formula.specs.Tokens.{Tok, mark}
+use Rattle.formula.specs.Tokens.{Tok, mark, tok}
 use Rattle.formula.specs.Trees.{Acts, complement, intersection, union}
 use Rattle.formula.proofs.Findings as findings
 
@@ -51,6 +53,7 @@ pub none-at : (c : Cursor) (b : ℕ) (F : ℕ → List Tok → Got Acts) (r : Op
 none-at = findings.none_found IsSet
 
 -- a word, by what is read after it
-pub by_mark : (c k : Cursor) (m m' : Mark) → ahead c ≡ mark m ∷ ahead (moved c (c.at + 1)) → m ≡ m' → k ≡ moved c (c.at + 1) → (r : Option (Found ActionSet)) →
-    ChoosesBy k (λ r ts. action_at r m' ts) r → Chooses c Tight r
-by_mark c k m m' e q p r f = findings.tight-from IsSet action_rules c k (mark m') p (e ∙ ap (λ x. mark x ∷ ahead (moved c (c.at + 1))) q) r f
+pub by_mark : (c k : Cursor) (x : Token) (m m' : Mark) → ahead c ≡ tok x ∷ ahead (moved c (c.at + 1)) → x ≡ token.Mark m → m ≡ m' → k ≡ moved c (c.at + 1) →
+    (r : Option (Found ActionSet)) → ChoosesBy k (λ r ts. action_at r m' ts) r → Chooses c Tight r
+by_mark c k x m m' e i q p r f =
+    findings.tight-from IsSet action_rules c k (mark m') p (e ∙ ap (λ y. tok y ∷ ahead (moved c (c.at + 1))) (i ∙ ap token.Mark q)) r f

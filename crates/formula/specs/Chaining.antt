@@ -10,16 +10,16 @@ use Rattle.formula.specs.Reading.{past_sign}
 
 module _ {F V S : Type 0} (g : Shared F (ℕ × (MutBor S × Unit {0})) (Option (Found V) × (MutBor S × Unit {0}))) (f : F) where
   -- f may read r at a place, and turn the state s into s'
-  abbrev pub Reads : ℕ → S → Option (Found V) → S → Type 0
-  Reads at s r s' = (p q : MutBor S) × (p.now ≡ s) × g.post f (at, (p, tt)) (r, (q, tt)) × (q.now ≡ s')
+  abbrev pub MayRead : ℕ → S → Option (Found V) → S → Type 0
+  MayRead at s r s' = (p q : MutBor S) × (p.now ≡ s) × g.post f (at, (p, tt)) (r, (q, tt)) × (q.now ≡ s')
 
   -- f never goes back
   abbrev pub OnlyOnward : Type 0
-  OnlyOnward = (at : ℕ) (s : S) (r : Option (Found V)) (s' : S) → Reads at s r s' → IfSome r (λ y. at ≤ y.end)
+  OnlyOnward = (at : ℕ) (s : S) (r : Option (Found V)) (s' : S) → MayRead at s r s' → IfSome r (λ y. at ≤ y.end)
 
 -- f may make z of x and y, and turn the state s into s'
-abbrev pub Joins : {F V S : Type 0} → Shared F (V × (V × (MutBor S × Unit {0}))) (V × (MutBor S × Unit {0})) → F → V → V → S → V → S → Type 0
-Joins {S = S} g f x y s z s' = (p q : MutBor S) × (p.now ≡ s) × g.post f (x, (y, (p, tt))) (z, (q, tt)) × (q.now ≡ s')
+abbrev pub MayJoin : {F V S : Type 0} → Shared F (V × (V × (MutBor S × Unit {0}))) (V × (MutBor S × Unit {0})) → F → V → V → S → V → S → Type 0
+MayJoin {S = S} g f x y s z s' = (p q : MutBor S) × (p.now ≡ s) × g.post f (x, (y, (p, tt))) (z, (q, tt)) × (q.now ≡ s')
 
 module _ {V S : Type 0} (Operand : ℕ → S → Option (Found V) → S → Type 0) (Join : V → V → S → V → S → Type 0) (sign : Sign) (tokens : List Token) where
   -- what goes on after the beginning of a chain

@@ -19,10 +19,9 @@ impl Cursor<'_> {
     fn named(&self, name: Name) -> ActionSet
         ensures { IsSet (listed self.now.labels.now) (named (spelled name)) result }
     {
-        match self.labels.lookup(name.as_bytes()) {
-            Some(action) => ActionSet::only(action),
-            None => ActionSet::none(),
-        }
+        self.labels
+            .lookup(name.as_bytes())
+            .map_or(ActionSet::none(), ActionSet::only)
     }
 
     // The actions that an action formula stands for, as far as a level reaches.
@@ -87,6 +86,7 @@ impl Cursor<'_> {
     }
 
     // What follows NOT.
+    // kept: NOT and parentheses stand in reader.rt too; one reader over a trait gets no proof, as parentheses lead back through the trait's method.
     #[cycle(braces)]
     fn other_actions(&self) -> Option<Found<ActionSet>>
         ensures { ChoosesBy self.now (λ r ts. then (r Tight ts) (λ c rest. Some (complement c, rest))) result }

@@ -1,5 +1,5 @@
 ghost use Rattle.std.specs.Prelude.{◌≡◌, ℕ, ◌+◌, ◌<◌, ◌≤◌, List, [], ◌∷◌, length, IfSome, MatchOption};
-ghost use Rattle.formula.specs.Chaining.{Reads, Joins, OnlyOnward, Chain};
+ghost use Rattle.formula.specs.Chaining.{MayRead, MayJoin, OnlyOnward, Chain};
 ghost use Rattle.formula.specs.Grammar.{begins};
 ghost use Rattle.formula.specs.Places.{ahead, moved, first, Past, Marked, Linked};
 ghost use Rattle.formula.specs.Reading.{past_sign, link};
@@ -74,7 +74,7 @@ impl<'a> Cursor<'a> {
         }
     }
 
-    // Operands with a sign between them, joined from the left.
+    // Operands with a sign between them, joined from the left; reading and joining may both change the state.
     pub(crate) fn chain<
         V: Copy,
         S,
@@ -84,7 +84,7 @@ impl<'a> Cursor<'a> {
         requires reads { (i : ℕ) (s : _) → self.now.at ≤ i → F.pre operand i s }
         requires onward { OnlyOnward F.Fn operand }
         requires joins { J.IsAlwaysCallable join }
-        ensures { Chain (Reads F.Fn operand) (Joins J.Fn join) sign self.now.tokens.now self.now.at state.old result state.new }
+        ensures { Chain (MayRead F.Fn operand) (MayJoin J.Fn join) sign self.now.tokens.now self.now.at state.old result state.new }
     {
         let mut left = operand(self.at, state)?;
         while let Some(next) = self.moved_to(left.end).after(sign) {

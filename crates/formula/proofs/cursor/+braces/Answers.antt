@@ -49,33 +49,27 @@ Cursor::tight_actions-returns-in-Name t c =
 
 pub Cursor::tight_actions-returns-in-True : goal.Cursor::tight_actions-returns-in-True
 Cursor::tight_actions-returns-in-True t c =
-    let s = c.args.self.now in let e = c.in_ok-token.ensures.0 ∙ ap (λ x. tok x ∷ ahead (moved s (s.at + 1))) c.in-Mark.is in
-    choices.by_mark s _ _ True e c.in-True.is refl (Some (record { value = c.all.result; end = s.at + 1 }))
+    choices.by_mark c.args.self.now _ _ c.in-Mark.mark True c.in_ok-token.ensures.0 c.in-Mark.is c.in-True.is refl (Some (record { value = c.all.result; end = c.args.self.now.at + 1 }))
     (all, (λ n h. refl), c.all.ensures, omega arith)
 
 pub Cursor::tight_actions-returns-in-False : goal.Cursor::tight_actions-returns-in-False
 Cursor::tight_actions-returns-in-False t c =
-    let s = c.args.self.now in let e = c.in_ok-token.ensures.0 ∙ ap (λ x. tok x ∷ ahead (moved s (s.at + 1))) c.in-Mark.is in
-    choices.by_mark s _ _ False e c.in-False.is refl (Some (record { value = c.none.result; end = s.at + 1 }))
+    choices.by_mark c.args.self.now _ _ c.in-Mark.mark False c.in_ok-token.ensures.0 c.in-Mark.is c.in-False.is refl (Some (record { value = c.none.result; end = c.args.self.now.at + 1 }))
     (none, (λ n h. refl), c.none.ensures, omega arith)
 
 pub Cursor::tight_actions-returns-in-Tau : goal.Cursor::tight_actions-returns-in-Tau
 Cursor::tight_actions-returns-in-Tau t c =
-    let s = c.args.self.now in let e = c.in_ok-token.ensures.0 ∙ ap (λ x. tok x ∷ ahead (moved s (s.at + 1))) c.in-Mark.is in
-    choices.by_mark s _ _ Tau e c.in-Tau.is refl (Some (record { value = c.only.result; end = s.at + 1 }))
+    choices.by_mark c.args.self.now _ _ c.in-Mark.mark Tau c.in_ok-token.ensures.0 c.in-Mark.is c.in-Tau.is refl (Some (record { value = c.only.result; end = c.args.self.now.at + 1 }))
     (silent, (λ n h. refl), c.only.ensures, omega arith)
 
 pub Cursor::tight_actions-returns-in-Not : goal.Cursor::tight_actions-returns-in-Not
 Cursor::tight_actions-returns-in-Not t c =
-    let s = c.args.self.now in let e = c.in_ok-token.ensures.0 ∙ ap (λ x. tok x ∷ ahead (moved s (s.at + 1))) c.in-Mark.is in
-    choices.by_mark s _ _ Not e c.in-Not.is c.moved_to-rest.ensures c.other_actions.result c.other_actions.ensures
+    choices.by_mark c.args.self.now _ _ c.in-Mark.mark Not c.in_ok-token.ensures.0 c.in-Mark.is c.in-Not.is c.moved_to-rest.ensures c.other_actions.result c.other_actions.ensures
 
 pub Cursor::tight_actions-returns-in-Sign : goal.Cursor::tight_actions-returns-in-Sign
 Cursor::tight_actions-returns-in-Sign t c =
-    let s = c.args.self.now in let e = c.in_ok-token.ensures.0 ∙ ap (λ x. tok x ∷ ahead (moved s (s.at + 1))) c.in-Mark.is in
-    choices.by_mark s _ _ (signed c.in-Sign.sign) e c.in-Sign.is c.moved_to-rest.ensures c.grouped_actions.result c.grouped_actions.ensures
+    choices.by_mark c.args.self.now _ _ c.in-Mark.mark (signed c.in-Sign.sign) c.in_ok-token.ensures.0 c.in-Mark.is c.in-Sign.is c.moved_to-rest.ensures c.grouped_actions.result c.grouped_actions.ensures
 
 pub Cursor::tight_actions-returns-in-Short : goal.Cursor::tight_actions-returns-in-Short
 Cursor::tight_actions-returns-in-Short t c =
-    let s = c.args.self.now in let e = c.in_ok-token.ensures.0 ∙ ap (λ x. tok x ∷ ahead (moved s (s.at + 1))) c.in-Mark.is in
-    choices.by_mark s _ _ c.in-Mark.mark e refl refl None (λ n h. choices.no_action (read action_rules n) c.in-Mark.mark _ c.in-Short.is)
+    choices.by_mark c.args.self.now _ _ c.in-Mark.mark c.in-Mark.mark c.in_ok-token.ensures.0 c.in-Mark.is refl refl None (λ n h. choices.no_action (read action_rules n) c.in-Mark.mark _ c.in-Short.is)
