@@ -1,15 +1,18 @@
 -- What a function of the reader finds, from what the functions that it calls find.
-use Rattle.std.proofs.Common.{◌≡◌, ℕ, ◌+◌, ◌-◌, ◌*◌, ◌<◌, ◌≤◌, true, cond, List, ◌∷◌, length, drop, Some, None, Option, sym, ap, ◌∙◌, arith}
+use Rattle.std.proofs.Common.{◌≡◌, ℕ, ◌+◌, ◌-◌, ◌*◌, ◌<◌, ◌≤◌, List, ◌∷◌, length, drop, Some, None, Option, sym, ap, ◌∙◌, subst, arith}
 use Rattle.std.proofs.lemmas.List.{length-map, length-drop}
+use Rattle.base.specs.Labels.{listed}
+use Rattle.formula.specs.declared.built.Found.{Found}
+use Rattle.formula.specs.declared.cursor.Cursor.{Cursor}
 use Rattle.formula.specs.declared.mark.Sign.{Sign}
-use Rattle.formula.specs.declared.mark.Sign.TheVariants.{Close, And, Or}
+use Rattle.formula.specs.declared.mark.Sign.TheVariants.{And, Or}
 use Rattle.formula.specs.declared.token.Token.{Token}
+use Rattle.formula.specs.Chaining.{More, ends, breaks, goes_on, Chain, fails, begins}
 use Rattle.formula.specs.Tokens.{Tok, tok}
-use Rattle.formula.specs.Grammar.{opens}
-use Rattle.formula.specs.Places.{unread}
+use Rattle.formula.specs.Places.{unread, ahead, moved, Past}
 use Rattle.formula.specs.Finding.{Settles, Finds}
-use Rattle.formula.specs.Reading.{past_sign, if_there, Got, then, Stage, OrLevel, OrMore, AndLevel, AndMore, Tight, Rules, read, rank, Reads, ended_by, in_group}
-use Rattle.formula.proofs.Stages.{or_some, and_some, or_more_some, and-more_some, tight-by}
+use Rattle.formula.specs.Reading.{past_sign, Got, Stage, OrLevel, OrMore, AndLevel, AndMore, Tight, Rules, read, rank, Reads}
+use Rattle.formula.proofs.Stages.{or_none, or_some, or_stop, or_more-none, or_more_some, and_none, and_some, and_stop, and-more-none, and-more_some, tight-by}
 
 pub unread-length : (s : List Token) (at : ℕ) → length (unread s at) ≡ length s - at
 unread-length s at = length-map (drop at s) tok ∙ length-drop at s
@@ -17,68 +20,84 @@ unread-length s at = length-map (drop at s) tok ∙ length-drop at s
 pub fewer : (s : List Token) (at mid : ℕ) → at ≤ mid → length (unread s mid) ≤ length (unread s at)
 fewer s at mid h = omega (arith, unread-length s at, unread-length s mid)
 
-module _ {X Y : Type 0} (R : Rules X) (end : Y → ℕ) (Stands : X → Y → Type 0) (s : List Token) where
-  abbrev pub At : Stage X → ℕ → Option Y → Type 0
-  At l at r = Finds end Stands s at (rank l) (λ n. read R n l (unread s at)) r
+-- A chain, by how its stages read: `top` a whole one, `more x` what goes on after x, `below` an operand.
+module _ {X V S : Type 0} (R : Rules X) (sign : Sign) (top below : Stage X) (more : X → Stage X) (make : X → X → X)
+    (none : (ts : List Tok) → Reads R below ts None → Reads R top ts None)
+    (some : (ts rest : List Tok) (x : X) (g : Got X) → Reads R below ts (Some (x, rest)) → length rest ≤ length ts → Reads R (more x) rest g → Reads R top ts g)
+    (stop : (x : X) (ts : List Tok) → past_sign sign ts ≡ None → Reads R (more x) ts (Some (x, ts)))
+    (no_more : (x : X) (ts us : List Tok) → past_sign sign ts ≡ Some us → Reads R below us None → Reads R (more x) ts None)
+    (one_more : (x y : X) (ts us rest : List Tok) (g : Got X) → past_sign sign ts ≡ Some us → Reads R below us (Some (y, rest)) → length rest ≤ length us →
+    Reads R (more (make x y)) rest g → Reads R (more x) ts g)
+    (c : Cursor) (Stands : S → S → X → V → Type 0) (Operand : ℕ → S → Option (Found V) → S → Type 0) (Join : V → V → S → V → S → Type 0)
+    (operand : (at : ℕ) (s : S) (r : Option (Found V)) (s' : S) → Operand at s r s' → Finds (Stands s s') (moved c at) (rank below) (λ n. read R n below) r)
+    (join : (x y : X) (s t u u' : S) (v w z : V) → Stands s t x v → Stands t u y w → Join v w u z u' → Stands s u' (make x y) z) where
+  abbrev At : S → S → Stage X → ℕ → Option (Found V) → Type 0
+  At s s' l at r = Finds (Stands s s') (moved c at) (rank l) (λ n. read R n l) r
 
-  -- the first of a chain, and the others
-  pub or_first : (x : X) (at mid : ℕ) → Reads R AndLevel (unread s at) (Some (x, unread s mid)) → at ≤ mid → (r : Option Y) → At (OrMore x) mid r → At OrLevel at r
-  or_first x at mid a h None k = or_some R (unread s at) (unread s mid) x None a (fewer s at mid h) k
-  or_first x at mid a h (Some y) k = (k.0, or_some R (unread s at) (unread s mid) x (Some (k.0, unread s (end y))) a (fewer s at mid h) k.1, k.2, omega (arith, k.3))
+  first : (s s' : S) (x : X) (at mid : ℕ) → Reads R below (unread c.tokens.now at) (Some (x, unread c.tokens.now mid)) → at ≤ mid → (r : Option (Found V)) →
+      At s s' (more x) mid r → At s s' top at r
+  first s s' x at mid a h None k = some _ _ x None a (fewer c.tokens.now at mid h) k
+  first s s' x at mid a h (Some y) k = (k.0, some _ _ x _ a (fewer c.tokens.now at mid h) k.1, k.2, omega (arith, k.3))
 
-  pub and_first : (x : X) (at mid : ℕ) → Reads R Tight (unread s at) (Some (x, unread s mid)) → at ≤ mid → (r : Option Y) → At (AndMore x) mid r → At AndLevel at r
-  and_first x at mid a h None k = and_some R (unread s at) (unread s mid) x None a (fewer s at mid h) k
-  and_first x at mid a h (Some y) k = (k.0, and_some R (unread s at) (unread s mid) x (Some (k.0, unread s (end y))) a (fewer s at mid h) k.1, k.2, omega (arith, k.3))
+  next : (s s' : S) (x y : X) (at on mid : ℕ) → past_sign sign (unread c.tokens.now at) ≡ Some (unread c.tokens.now on) → on ≡ at + 1 →
+      Reads R below (unread c.tokens.now on) (Some (y, unread c.tokens.now mid)) → on ≤ mid → (r : Option (Found V)) → At s s' (more (make x y)) mid r → At s s' (more x) at r
+  next s s' x y at on mid e l a h None k = one_more x y _ _ _ None e a (fewer c.tokens.now on mid h) k
+  next s s' x y at on mid e l a h (Some z) k = (k.0, one_more x y _ _ _ _ e a (fewer c.tokens.now on mid h) k.1, k.2, omega (arith, k.3))
 
-  pub or_next : (x z : X) (at next mid : ℕ) → past_sign Or (unread s at) ≡ Some (unread s next) → at ≤ next →
-      Reads R AndLevel (unread s next) (Some (z, unread s mid)) → next ≤ mid → (r : Option Y) → At (OrMore (R.either x z)) mid r → At (OrMore x) at r
-  or_next x z at next mid e l a h None k = or_more_some R x z (unread s at) (unread s next) (unread s mid) None e a (fewer s next mid h) k
-  or_next x z at next mid e l a h (Some y) k =
-      (k.0, or_more_some R x z (unread s at) (unread s next) (unread s mid) (Some (k.0, unread s (end y))) e a (fewer s next mid h) k.1, k.2, omega (arith, k.3))
+  goes : (x : X) (s₀ s : S) (left : Found V) (r : Option (Found V)) (s' : S) → Stands s₀ s x left.value →
+      More Operand Join sign c.tokens.now left s r s' → At s₀ s' (more x) left.end r
+  goes x s₀ s left r s' k (ends e) = (x, stop x _ e, k, omega arith)
+  goes x s₀ s left r s' k (breaks {next = on} e n o) = no_more x _ _ e (operand on s None s' o)
+  goes x s₀ s left r s' k (goes_on {right = right} {t = t} {u = u} {next = on} {v = v} e n o j m) =
+      let d = operand on s (Some right) t o in
+      next s₀ s' x d.0 left.end on right.end e n d.1 d.3 r
+      (goes (make x d.0) s₀ u (record { value = v; end = right.end }) r s' (join x d.0 s₀ s t u left.value right.value v k d.2 j) m)
 
-  pub and-next : (x z : X) (at next mid : ℕ) → past_sign And (unread s at) ≡ Some (unread s next) → at ≤ next →
-      Reads R Tight (unread s next) (Some (z, unread s mid)) → next ≤ mid → (r : Option Y) → At (AndMore (R.both x z)) mid r → At (AndMore x) at r
-  and-next x z at next mid e l a h None k = and-more_some R x z (unread s at) (unread s next) (unread s mid) None e a (fewer s next mid h) k
-  and-next x z at next mid e l a h (Some y) k =
-      (k.0, and-more_some R x z (unread s at) (unread s next) (unread s mid) (Some (k.0, unread s (end y))) e a (fewer s next mid h) k.1, k.2, omega (arith, k.3))
+  pub chained : (s s' : S) (r : Option (Found V)) → Chain Operand Join sign c.tokens.now c.at s r s' → Finds (Stands s s') c (rank top) (λ n. read R n top) r
+  chained s s' r (fails o) = none _ (operand c.at s None s' o)
+  chained s s' r (begins {t = t} {left = left} o m) =
+      let d = operand c.at s (Some left) t o in
+      first s s' d.0 c.at left.end d.1 d.3 r (goes d.0 s t left r s' d.2 m)
+
+-- the two chains
+module _ {X V S : Type 0} (R : Rules X) (c : Cursor) (Stands : S → S → X → V → Type 0) (Operand : ℕ → S → Option (Found V) → S → Type 0) (Join : V → V → S → V → S → Type 0) where
+  pub or_chain : ((at : ℕ) (s : S) (r : Option (Found V)) (s' : S) → Operand at s r s' → Finds (Stands s s') (moved c at) 2 (λ n. read R n AndLevel) r) →
+      ((x y : X) (s t u u' : S) (v w z : V) → Stands s t x v → Stands t u y w → Join v w u z u' → Stands s u' (R.either x y) z) →
+      (s s' : S) (r : Option (Found V)) → Chain Operand Join Or c.tokens.now c.at s r s' → Finds (Stands s s') c 3 (λ n. read R n OrLevel) r
+  or_chain = chained R Or OrLevel AndLevel OrMore R.either (or_none R) (or_some R) (or_stop R) (or_more-none R) (or_more_some R) c Stands Operand Join
+
+  pub and-chain : ((at : ℕ) (s : S) (r : Option (Found V)) (s' : S) → Operand at s r s' → Finds (Stands s s') (moved c at) 1 (λ n. read R n Tight) r) →
+      ((x y : X) (s t u u' : S) (v w z : V) → Stands s t x v → Stands t u y w → Join v w u z u' → Stands s u' (R.both x y) z) →
+      (s s' : S) (r : Option (Found V)) → Chain Operand Join And c.tokens.now c.at s r s' → Finds (Stands s s') c 2 (λ n. read R n AndLevel) r
+  and-chain = chained R And AndLevel Tight AndMore R.both (and_none R) (and_some R) (and_stop R) (and-more-none R) (and-more_some R) c Stands Operand Join
+
+-- a sign after a place that was moved to
+pub past_there : (c k : Cursor) (at : ℕ) (s : Sign) (r : Option ℕ) → k ≡ moved c at → Past k (past_sign s (ahead k)) r → Past (moved c at) (past_sign s (ahead (moved c at))) r
+past_there c k at s r e p = subst (λ x. Past x (past_sign s (ahead x)) r) e p
+
+module _ {X V : Type 0} (Stands : List (List ℕ) → X → V → Type 0) where
+  abbrev pub Finds_at : Cursor → ℕ → (ℕ → List Tok → Got X) → Option (Found V) → Type 0
+  Finds_at c b F r = Finds (Stands (listed c.labels.now)) c b F r
+
+  -- nothing was found, where a `?` returns
+  pub none_found : (c : Cursor) (b : ℕ) (F : ℕ → List Tok → Got X) (r : Option (Found V)) → r ≡ None → Settles b (ahead c) F None → Finds_at c b F r
+  none_found c b F r e k = subst (Finds_at c b F) (sym e) k
+
+  -- what is found at a later place, where the steps from here lead there
+  pub led : (c k : Cursor) (at b b' : ℕ) (F F' : ℕ → List Tok → Got X) → k ≡ moved c at → c.at ≤ at → b' ≤ b →
+      ((n : ℕ) → 3 * length (ahead c) + b < n → F n (ahead c) ≡ F' n (ahead (moved c at))) → (r : Option (Found V)) → Finds_at k b' F' r → Finds_at c b F r
+  led c k at b b' F F' p h l e r f = from r (subst (λ x. Finds_at x b' F' r) p f)
+    where
+      from : (r : Option (Found V)) → Finds_at (moved c at) b' F' r → Finds_at c b F r
+      from None f = λ n m. e n m ∙ f n (omega (arith, fewer c.tokens.now c.at at h))
+      from (Some y) f = (f.0, (λ n m. e n m ∙ f.1 n (omega (arith, fewer c.tokens.now c.at at h))), f.2, omega (arith, f.3))
 
   -- a tight formula, by its first token
-  pub tight-from : (t : Tok) (at : ℕ) → unread s at ≡ t ∷ unread s (at + 1) → (r : Option Y) →
-      Finds end Stands s (at + 1) 3 (λ n. R.tightly (read R n) (t ∷ unread s (at + 1))) r → At Tight at r
-  tight-from t at e None k = tight-by R (unread s at) None (λ n h. ap (R.tightly (read R n)) e ∙ k n (omega (arith, ap length e)))
-  tight-from t at e (Some y) k =
-      (k.0, tight-by R (unread s at) (Some (k.0, unread s (end y))) (λ n h. ap (R.tightly (read R n)) e ∙ k.1 n (omega (arith, ap length e))), k.2, omega (arith, k.3))
-
--- in parentheses, with the sign after it
-pub grouped-by : {X : Type 0} (R : Rules X) (s : List Token) (sign : Sign) (x : X) (at mid end : ℕ) → true ≡ opens sign →
-    Reads R OrLevel (unread s at) (Some (x, unread s mid)) → past_sign Close (unread s mid) ≡ Some (unread s end) →
-    Settles 3 (unread s at) (λ n. in_group sign (read R n OrLevel (unread s at))) (Some (x, unread s end))
-grouped-by {X} R s sign x at mid end o a e n h =
-    ap (λ b. cond b (then (read R n OrLevel (unread s at)) (ended_by Close)) None) (sym o)
-    ∙ ap (λ g. then g (ended_by Close)) (a n h)
-    ∙ ap (λ p. if_there {X = Got X} p (λ rest. Some (x, rest)) None) e
-
-pub grouped-none : {X : Type 0} (R : Rules X) (s : List Token) (sign : Sign) (at : ℕ) → true ≡ opens sign →
-    Reads R OrLevel (unread s at) None → Settles 3 (unread s at) (λ n. in_group sign (read R n OrLevel (unread s at))) None
-grouped-none R s sign at o a n h =
-    ap (λ b. cond b (then (read R n OrLevel (unread s at)) (ended_by Close)) None) (sym o) ∙ ap (λ g. then g (ended_by Close)) (a n h)
-
-pub grouped_open : {X : Type 0} (R : Rules X) (s : List Token) (sign : Sign) (x : X) (at mid : ℕ) → true ≡ opens sign →
-    Reads R OrLevel (unread s at) (Some (x, unread s mid)) → past_sign Close (unread s mid) ≡ None →
-    Settles 3 (unread s at) (λ n. in_group sign (read R n OrLevel (unread s at))) None
-grouped_open {X} R s sign x at mid o a e n h =
-    ap (λ b. cond b (then (read R n OrLevel (unread s at)) (ended_by Close)) None) (sym o)
-    ∙ ap (λ g. then g (ended_by Close)) (a n h)
-    ∙ ap (λ p. if_there {X = Got X} p (λ rest. Some (x, rest)) None) e
-
--- nothing was found, where a `?` returns
-pub none_found : {X Y : Type 0} (end : Y → ℕ) (Stands : X → Y → Type 0) (s : List Token) (at b : ℕ) (F : ℕ → Got X) (r : Option Y) → r ≡ None →
-    Settles b (unread s at) F None → Finds end Stands s at b F r
-none_found end Stands s at b F None e k = k
-none_found {X} {Y} end Stands s at b F (Some y) e k = let z : ◌≡◌ {A = ℕ} 0 1 = cc in absurd (omega arith)
-
--- what is found at a later place, where the steps from here lead there
-pub moved : {X Y : Type 0} (end : Y → ℕ) (Stands : X → Y → Type 0) (s : List Token) (at mid b b' : ℕ) (F F' : ℕ → Got X) → at ≤ mid → b' ≤ b →
-    ((n : ℕ) → 3 * length (unread s at) + b < n → F n ≡ F' n) → (r : Option Y) → Finds end Stands s mid b' F' r → Finds end Stands s at b F r
-moved end Stands s at mid b b' F F' h l e None k = λ n m. e n m ∙ k n (omega (arith, fewer s at mid h))
-moved end Stands s at mid b b' F F' h l e (Some y) k = (k.0, (λ n m. e n m ∙ k.1 n (omega (arith, fewer s at mid h))), k.2, omega (arith, k.3))
+  pub tight-from : (R : Rules X) (c k : Cursor) (t : Tok) → k ≡ moved c (c.at + 1) → ahead c ≡ t ∷ ahead (moved c (c.at + 1)) → (r : Option (Found V)) →
+      Finds_at k 3 (λ n ts. R.tightly (read R n) (t ∷ ts)) r → Finds_at c 1 (λ n. read R n Tight) r
+  tight-from R c k t p e r f = from r (subst (λ x. Finds_at x 3 (λ n ts. R.tightly (read R n) (t ∷ ts)) r) p f)
+    where
+      from : (r : Option (Found V)) → Finds_at (moved c (c.at + 1)) 3 (λ n ts. R.tightly (read R n) (t ∷ ts)) r → Finds_at c 1 (λ n. read R n Tight) r
+      from None f = tight-by R (ahead c) None (λ n h. ap (R.tightly (read R n)) e ∙ f n (omega (arith, ap length e)))
+      from (Some y) f =
+          (f.0, tight-by R (ahead c) _ (λ n h. ap (R.tightly (read R n)) e ∙ f.1 n (omega (arith, ap length e))), f.2, omega (arith, f.3))

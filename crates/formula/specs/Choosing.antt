@@ -2,12 +2,13 @@
 use Rattle.std.specs.Prelude.{◌≡◌, ℕ, Bool, false, not, ◌&&◌, ◌||◌, List, Some, None, Option, ◌==◌, nat_lt}
 use Rattle.base.specs.Listing.{action_of}
 use Rattle.base.specs.declared.action_set.ActionSet.{ActionSet}
-use Rattle.formula.specs.declared.actions.Chosen.{Chosen}
-use Rattle.formula.specs.declared.token.Token.{Token}
-use Rattle.formula.specs.Finding.{Finds}
-use Rattle.formula.specs.Places.{unread}
-use Rattle.formula.specs.Reading.{Stage, Got, read, rank, action_rules}
+use Rattle.base.specs.Labels.{listed}
 use Rattle.base.specs.Sets.{holds}
+use Rattle.formula.specs.declared.built.Found.{Found}
+use Rattle.formula.specs.declared.cursor.Cursor.{Cursor}
+use Rattle.formula.specs.Finding.{Finds}
+use Rattle.formula.specs.Reading.{Stage, Reader, Got, read, rank, action_rules}
+use Rattle.formula.specs.Tokens.{Tok}
 use Rattle.formula.specs.Trees.{Acts, all, none, silent, named, complement, intersection, union}
 
 -- one of the 64 actions
@@ -28,8 +29,9 @@ set_of names (union c d) a = set_of names c a || set_of names d a
 abbrev pub IsSet : List (List ℕ) → Acts → ActionSet → Type 0
 IsSet names c s = (a : ℕ) → holds s a ≡ set_of names c a
 
-abbrev pub ChoosesBy : List (List ℕ) → List Token → ℕ → ℕ → (ℕ → Got Acts) → Option Chosen → Type 0
-ChoosesBy names tokens at b F r = Finds (λ y. y.end) (λ c y. IsSet names c y.actions) tokens at b F r
+abbrev pub Chooses : Cursor → Stage Acts → Option (Found ActionSet) → Type 0
+Chooses c l r = Finds (IsSet (listed c.labels.now)) c (rank l) (λ n. read action_rules n l) r
 
-abbrev pub Chooses : List (List ℕ) → List Token → ℕ → Stage Acts → Option Chosen → Type 0
-Chooses names tokens at l r = ChoosesBy names tokens at (rank l) (λ n. read action_rules n l (unread tokens at)) r
+-- the same, by how a reader goes on
+abbrev pub ChoosesBy : Cursor → (Reader Acts → List Tok → Got Acts) → Option (Found ActionSet) → Type 0
+ChoosesBy c F r = Finds (IsSet (listed c.labels.now)) c 3 (λ n. F (read action_rules n)) r

@@ -1,5 +1,6 @@
 pub mod Agreement
 pub mod Building
+pub mod Chaining
 pub mod Choosing
 pub mod Entering
 pub mod Finding

@@ -1,5 +1,6 @@
--- Places in a list of tokens, and what stands unread from there on.
+-- What stands at a place of the tokens.
 use Rattle.std.specs.Prelude.{◌≡◌, ℕ, ◌+◌, ◌<◌, List, [], ◌∷◌, map, length, drop, Some, None, Option}
+use Rattle.formula.specs.declared.cursor.Cursor.{Cursor}
 use Rattle.formula.specs.declared.token.Token.{Token}
 use Rattle.formula.specs.declared.mark.Link.{Link}
 use Rattle.formula.specs.declared.mark.Mark.{Mark}
@@ -8,10 +9,18 @@ use Rattle.formula.specs.Tokens.{Tok, mark, name, tok}
 abbrev pub unread : List Token → ℕ → List Tok
 unread tokens at = map tok (drop at tokens)
 
+-- what is yet to be read
+abbrev pub ahead : Cursor → List Tok
+ahead c = unread c.tokens.now c.at
+
+-- the same text, at another place
+abbrev pub moved : Cursor → ℕ → Cursor
+moved c at = record { tokens = c.tokens; labels = c.labels; at = at }
+
 -- what follows one token, as a place
-abbrev pub Past : List Token → ℕ → Option (List Tok) → Option ℕ → Type 0
-Past tokens at o None = o ≡ None
-Past tokens at o (Some end) = (o ≡ Some (unread tokens end)) × (end ≡ at + 1) × (at < length tokens)
+abbrev pub Past : Cursor → Option (List Tok) → Option ℕ → Type 0
+Past c o None = o ≡ None
+Past c o (Some end) = (o ≡ Some (ahead (moved c end))) × (end ≡ c.at + 1) × (c.at < length c.tokens.now)
 
 -- the sign or word that stands first; none at a name
 abbrev pub first : List Tok → Option Mark
@@ -19,11 +28,11 @@ first [] = None
 first (name w ∷ ts) = None
 first (mark m ∷ ts) = Some m
 
-abbrev pub Marked : List Token → ℕ → Option Mark → Option Mark → Type 0
-Marked tokens at o None = o ≡ None
-Marked tokens at o (Some m) = (unread tokens at ≡ mark m ∷ unread tokens (at + 1)) × (at < length tokens)
+abbrev pub Marked : Cursor → Option Mark → Option Mark → Type 0
+Marked c o None = o ≡ None
+Marked c o (Some m) = (ahead c ≡ mark m ∷ ahead (moved c (c.at + 1))) × (c.at < length c.tokens.now)
 
 -- the word between two parts, and what follows it
-abbrev pub Linked : List Token → ℕ → Option (Link × List Tok) → Option Link → Type 0
-Linked tokens at o None = o ≡ None
-Linked tokens at o (Some l) = (o ≡ Some (l, unread tokens (at + 1))) × (at < length tokens)
+abbrev pub Linked : Cursor → Option (Link × List Tok) → Option Link → Type 0
+Linked c o None = o ≡ None
+Linked c o (Some l) = (o ≡ Some (l, ahead (moved c (c.at + 1)))) × (c.at < length c.tokens.now)

@@ -57,11 +57,15 @@ pub data Stage (X : Type 0) : Type 0 where
   AndMore : X → Stage X
   Tight : Stage X
 
+-- how each stage reads tokens
+abbrev pub Reader : Type 0 → Type 0
+Reader X = Stage X → List Tok → Got X
+
 -- what AND and OR make, and how a tight formula is read with a reader for what it holds
 pub record Rules (X : Type 0) : Type 0 where
   pub both : X → X → X
   pub either : X → X → X
-  pub tightly : (Stage X → List Tok → Got X) → List Tok → Got X
+  pub tightly : Reader X → List Tok → Got X
 
 -- what tokens read as at each stage, in at most n steps
 unfoldable pub read : {X : Type 0} → Rules X → ℕ → Stage X → List Tok → Got X
@@ -94,7 +98,7 @@ abbrev pub in_group : {X : Type 0} → Sign → Got X → Got X
 in_group s g = cond (opens s) (then g (ended_by Close)) None
 
 -- action formulas
-abbrev pub action_at : (Stage Acts → List Tok → Got Acts) → Mark → List Tok → Got Acts
+abbrev pub action_at : Reader Acts → Mark → List Tok → Got Acts
 action_at r (signed s) ts = in_group s (r OrLevel ts)
 action_at r True ts = Some (all, ts)
 action_at r False ts = Some (none, ts)
@@ -104,7 +108,7 @@ action_at r (Short o) ts = None
 action_at r (Path q) ts = None
 action_at r (Between l) ts = None
 
-abbrev pub action : (Stage Acts → List Tok → Got Acts) → List Tok → Got Acts
+abbrev pub action : Reader Acts → List Tok → Got Acts
 action r [] = None
 action r (name w ∷ ts) = Some (named w, ts)
 action r (mark m ∷ ts) = action_at r m ts
@@ -153,7 +157,7 @@ abbrev pub two_parts : (List Tok → Got Tree) → Quantifier → List Tok → G
 two_parts r q ts = then (part r ts) (λ p us. then (link us) (second_part r q p))
 
 -- formulas
-abbrev pub formula_at : (Stage Tree → List Tok → Got Tree) → Mark → List Tok → Got Tree
+abbrev pub formula_at : Reader Tree → Mark → List Tok → Got Tree
 formula_at r (signed s) ts = in_group s (r OrLevel ts)
 formula_at r True ts = Some (TRUE, ts)
 formula_at r False ts = Some (FALSE, ts)
@@ -163,7 +167,7 @@ formula_at r (Short o) ts = then (part (r Tight) ts) (λ p rest. Some (short o p
 formula_at r (Path q) ts = if_there (past_sign BracketOpen ts) (two_parts (r OrLevel) q) None
 formula_at r (Between l) ts = None
 
-abbrev pub formula : (Stage Tree → List Tok → Got Tree) → List Tok → Got Tree
+abbrev pub formula : Reader Tree → List Tok → Got Tree
 formula r [] = None
 formula r (name w ∷ ts) = None
 formula r (mark m ∷ ts) = formula_at r m ts

@@ -1,23 +1,23 @@
 use base::action_set::ActionSet;
 
-// A formula that was written: its number, and the place after it.
+// What was read, and the place after it.
 #[derive(Clone, Copy)]
-pub struct Built {
-    pub(crate) root: usize,
+pub struct Found<T> {
+    pub(crate) value: T,
     pub(crate) end: usize,
 }
 
-// A part that was written: its actions, the number of its formula, and the place after it.
+// A part that was written: its actions, and the number of its formula.
 #[derive(Clone, Copy)]
-pub struct BuiltPart {
+pub struct Part {
     pub(crate) actions: ActionSet,
     pub(crate) root: usize,
-    pub(crate) end: usize,
 }
 
-// How far the formula of a part reaches: after a two-letter operator it is tight, in brackets it is whole.
+// How much is read: a chain of OR, a chain of AND, or what binds closer than both.
 #[derive(Clone, Copy)]
-pub enum Extent {
+pub enum Level {
+    Or,
+    And,
     Tight,
-    Whole,
 }

@@ -1,89 +1,99 @@
-ghost use Rattle.std.specs.Prelude.{◌≡◌, ◌+◌, ◌<◌, Bool, true, false, List, [], ◌∷◌, length, Some, None, MatchOption};
-ghost use Rattle.formula.specs.Grammar.{opens, begins_with, begins};
-ghost use Rattle.formula.specs.Reading.{is, past_sign, link_of, link};
+ghost use Rattle.std.specs.Prelude.{◌≡◌, ℕ, ◌+◌, ◌<◌, ◌≤◌, List, [], ◌∷◌, length, IfSome, MatchOption};
+ghost use Rattle.formula.specs.Chaining.{MayRead, MayJoin, OnlyOnward, Chain};
+ghost use Rattle.formula.specs.Grammar.{begins};
+ghost use Rattle.formula.specs.Places.{ahead, moved, first, Past, Marked, Linked};
+ghost use Rattle.formula.specs.Reading.{past_sign, link};
 ghost use Rattle.formula.specs.Tokens.{tok};
-ghost use Rattle.formula.specs.Places.{unread, first, Past, Marked, Linked};
 
+use crate::built::Found;
 use crate::mark::{Link, Mark, Sign};
 use crate::token::Token;
+use base::labels::Labels;
 
-// The token at a place.
-pub(crate) fn peek(tokens: &[Token], at: usize) -> Option<Token>
-    ensures { MatchOption result (unread tokens.now at ≡ []) (λ t. (unread tokens.now at ≡ tok t ∷ unread tokens.now (at + 1)) × (at < length tokens.now)) }
-{
-    if at < tokens.len() {
-        Some(tokens[at])
-    } else {
-        None
+// A place in the tokens of a text, and the labels by which its names are actions.
+#[derive(Clone, Copy)]
+pub struct Cursor<'a> {
+    pub(crate) tokens: &'a [Token],
+    pub(crate) labels: &'a Labels,
+    pub(crate) at: usize,
+}
+
+impl<'a> Cursor<'a> {
+    // The same text, at another place.
+    pub(crate) fn moved_to(&self, at: usize) -> Cursor<'a>
+        ensures { result ≡ moved self.now at }
+    {
+        Cursor { at, ..*self }
     }
-}
 
-fn is_sign(mark: Mark, sign: Sign) -> bool
-    ensures { result ≡ is sign mark }
-{
-    match mark {
-        Mark::Sign(found) => found as u8 == sign as u8,
-        _ => false,
+    // The token that stands here.
+    pub(crate) fn peek(&self) -> Option<Token>
+        ensures { MatchOption result (ahead self.now ≡ []) (λ t. (ahead self.now ≡ tok t ∷ ahead (moved self.now (self.now.at + 1))) × (self.now.at < length self.now.tokens.now)) }
+    {
+        self.tokens.get(self.at).copied()
     }
-}
 
-// The place after a sign, if it stands at a place.
-pub(crate) fn after(tokens: &[Token], at: usize, sign: Sign) -> Option<usize>
-    ensures { Past tokens.now at (past_sign sign (unread tokens.now at)) result }
-{
-    match peek(tokens, at) {
-        Some(Token::Mark(mark)) => if is_sign(mark, sign) {
-            Some(at + 1)
-        } else {
-            None
-        },
-        _ => None,
+    // The sign or word that stands here; none at a name.
+    pub(crate) fn mark(&self) -> Option<Mark>
+        ensures { Marked self.now (first (ahead self.now)) result }
+    {
+        match self.peek()? {
+            Token::Mark(mark) => Some(mark),
+            Token::Name(_) => None,
+        }
     }
-}
 
-// Whether a sign begins a formula in parentheses.
-pub(crate) fn is_open(sign: Sign) -> bool
-    ensures { result ≡ opens sign }
-{
-    matches!(sign, Sign::Open)
-}
-
-fn can_begin(mark: Mark) -> bool
-    ensures { result ≡ begins_with mark }
-{
-    match mark {
-        Mark::Sign(sign) => is_open(sign),
-        Mark::True | Mark::False | Mark::Not | Mark::Short(_) | Mark::Path(_) => true,
-        Mark::Tau | Mark::Between(_) => false,
+    // The place after a sign, if it stands here.
+    pub(crate) fn after(&self, sign: Sign) -> Option<usize>
+        ensures { Past self.now (past_sign sign (ahead self.now)) result }
+    {
+        match self.mark()? {
+            Mark::Sign(found) if found == sign => Some(self.at + 1),
+            _ => None,
+        }
     }
-}
 
-// Whether a formula can begin at a place.
-pub(crate) fn can_begin_at(tokens: &[Token], at: usize) -> bool
-    ensures { result ≡ begins (unread tokens.now at) }
-{
-    match peek(tokens, at) {
-        Some(Token::Mark(mark)) => can_begin(mark),
-        _ => false,
+    // The word U or W that stands here.
+    pub(crate) fn link(&self) -> Option<Link>
+        ensures { Linked self.now (link (ahead self.now)) result }
+    {
+        match self.mark()? {
+            Mark::Between(found) => Some(found),
+            _ => None,
+        }
     }
-}
 
-// The sign or word at a place; none at a name.
-pub(crate) fn mark_at(tokens: &[Token], at: usize) -> Option<Mark>
-    ensures { Marked tokens.now at (first (unread tokens.now at)) result }
-{
-    match peek(tokens, at) {
-        Some(Token::Mark(mark)) => Some(mark),
-        _ => None,
+    // Whether a formula can begin here.
+    pub(crate) fn can_begin(&self) -> bool
+        ensures { result ≡ begins (ahead self.now) }
+    {
+        match self.mark() {
+            Some(Mark::Sign(sign)) => sign == Sign::Open,
+            Some(Mark::True | Mark::False | Mark::Not | Mark::Short(_) | Mark::Path(_)) => true,
+            Some(Mark::Tau | Mark::Between(_)) | None => false,
+        }
     }
-}
 
-// The word U or W at a place.
-pub(crate) fn link_at(tokens: &[Token], at: usize) -> Option<Link>
-    ensures { Linked tokens.now at (link (unread tokens.now at)) result }
-{
-    match mark_at(tokens, at) {
-        Some(Mark::Between(found)) => Some(found),
-        _ => None,
+    // Operands with a sign between them, joined from the left; reading and joining may both change the state.
+    pub(crate) fn chain<
+        V: Copy,
+        S,
+        F: Fn(usize, &mut S) -> Option<Found<V>>,
+        J: Fn(V, V, &mut S) -> V,
+    >(&self, sign: Sign, state: &mut S, operand: F, join: J) -> Option<Found<V>>
+        requires reads { (i : ℕ) (s : _) → self.now.at ≤ i → F.pre operand i s }
+        requires onward { OnlyOnward F.Fn operand }
+        requires joins { J.IsAlwaysCallable join }
+        ensures { Chain (MayRead F.Fn operand) (MayJoin J.Fn join) sign self.now.tokens.now self.now.at state.old result state.new }
+    {
+        let mut left = operand(self.at, state)?;
+        while let Some(next) = self.moved_to(left.end).after(sign) {
+            let right = operand(next, state)?;
+            left = Found {
+                value: join(left.value, right.value, state),
+                end: right.end,
+            };
+        }
+        Some(left)
     }
 }

@@ -4,9 +4,10 @@ ghost use Rattle.formula.specs.Entering.{is_listed, all_listed, Whole, ChecksTok
 ghost use Rattle.formula.specs.Laying.{drafted, shapes};
 ghost use Rattle.formula.specs.Tokens.{tok};
 
+use crate::built::Level;
+use crate::cursor::Cursor;
 use crate::lexer::lex;
 use crate::nodes::{Draft, Entry, Nodes};
-use crate::reader::any_of;
 use crate::token::Token;
 use base::labels::Labels;
 use base::refusal::Refusal;
@@ -34,11 +35,16 @@ fn all_listed(tokens: &[Token], labels: &Labels) -> bool
 fn whole(tokens: &[Token], labels: &Labels, draft: &mut Draft) -> Option<usize>
     ensures { Whole (listed labels.now) (map tok tokens.now) (drafted draft.old) (drafted draft.new) result }
 {
-    let built = any_of(tokens, 0, labels, draft)?;
+    let start = Cursor {
+        tokens,
+        labels,
+        at: 0,
+    };
+    let built = start.formula(Level::Or, draft)?;
     if built.end < tokens.len() {
         return None;
     }
-    Some(built.root)
+    Some(built.value)
 }
 
 // Checks the tokens of a text over a copy of the nodes.

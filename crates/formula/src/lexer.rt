@@ -13,17 +13,17 @@ use base::name::Name;
 use base::refusal::Refusal;
 use base::spelling::{is_name, is_name_byte};
 
-// The sign that a byte is, if it is one.
-fn sign_of(byte: u8) -> Option<Sign>
-    ensures { result ≡ sign byte }
+// The sign that a character is, if it is one.
+fn sign_of(character: char) -> Option<Sign>
+    ensures { result ≡ sign character }
 {
-    match byte {
-        b'(' => Some(Sign::Open),
-        b')' => Some(Sign::Close),
-        b'[' => Some(Sign::BracketOpen),
-        b']' => Some(Sign::BracketClose),
-        b'{' => Some(Sign::BraceOpen),
-        b'}' => Some(Sign::BraceClose),
+    match character {
+        '(' => Some(Sign::Open),
+        ')' => Some(Sign::Close),
+        '[' => Some(Sign::BracketOpen),
+        ']' => Some(Sign::BracketClose),
+        '{' => Some(Sign::BraceOpen),
+        '}' => Some(Sign::BraceClose),
         _ => None,
     }
 }
@@ -96,7 +96,7 @@ fn token_at(text: &[u8]) -> Result<(Token, &[u8]), Refusal>
     requires { 0 < length text.now }
     ensures { Cuts (token_at text.now) result }
 {
-    match sign_of(text[0]) {
+    match sign_of(char::from(text[0])) {
         Some(sign) => Ok((Token::Mark(Mark::Sign(sign)), &text[1..])),
         None if text[0].is_ascii_uppercase() => word_at(text),
         None => name_at(text),

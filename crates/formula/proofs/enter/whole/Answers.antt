@@ -10,7 +10,7 @@ use Rattle.formula.proofs.enter.whole.Goals as goal
 pub returns-in_err-built : goal.returns-in_err-built
 returns-in_err-built c =
     let s = c.args.tokens.now in let l = c.args.labels.now in
-    subst (Whole (listed l) (unread s 0) (drafted c.args.draft.now) (drafted c.any_of.new.draft)) (sym c.from_residual.ensures)
+    subst (Whole (listed l) (unread s 0) (drafted c.args.draft.now) (drafted c.formula.new.draft)) (sym c.from_residual.ensures)
     (tree-none (unread s 0) c.in_err-built.ensures)
 
 pub returns-then-built-tokens : goal.returns-then-built-tokens
