@@ -2,7 +2,6 @@
 // for the byte with that hexadecimal number. The label list is tau, a, b, c and abcdefghijklmnop.
 #![tactic(auto)]
 
-use anyhow::anyhow;
 use base::action_set::ActionSet;
 use base::labels::Labels;
 use base::refusal::Refusal;
@@ -117,7 +116,7 @@ fn run(rt: &HostRuntime, text: &[u8], labels: &Labels) -> io::Result<()> {
 }
 
 fn main(rt: HostRuntime) -> anyhow::Result<()> {
-    let labels = names().map_err(|why| anyhow!(why.word()))?;
+    let labels = names()?;
     for line in rt.lines(rt.alloc()) {
         let line = line?;
         let text = decode(rt.alloc(), line.as_str())?;
