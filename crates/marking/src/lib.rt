@@ -3,7 +3,6 @@
 
 pub mod count;
 pub mod decoded;
-mod direction;
 mod gate;
 mod gates;
 pub mod node;

@@ -3,5 +3,5 @@
 
 pub mod bit_shelf;
 pub mod column_shelf;
-mod overwrite;
+mod memory;
 pub mod shelf;
