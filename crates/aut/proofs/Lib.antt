@@ -3,7 +3,6 @@ mod Readings
 mod Rooms
 mod Slots
 mod Stages
-mod Walks
 mod Plans
 mod Outcomes
 mod Fronts

@@ -1,17 +1,18 @@
 -- The pieces of a line, one by one: the reader goes through a piece exactly where the text has one.
-use Rattle.std.proofs.Common.{◌≡◌, ℕ, suc, ◌+◌, ◌-◌, ◌*◌, ◌<◌, ◌≤◌, true, false, cond, ◌&&◌, eqb, ltb, leb, List, [], ◌∷◌, ◌++◌, length, get_or, Some, None, sym, refl, ap, ◌∙◌, subst, arith}
+use Rattle.std.proofs.Common.{◌≡◌, ℕ, suc, ◌+◌, ◌-◌, ◌*◌, ◌<◌, ◌≤◌, true, false, cond, ◌&&◌, eqb, ltb, leb, List, [], ◌∷◌, ◌++◌, length, get_or, Some, None, Option, sym, refl, ap, ◌∙◌, subst, arith}
+use Rattle.std.specs.Option.{option_and_then}
 use Rattle.std.proofs.lemmas.List.{append_assoc, append-nil, length_push}
 use Rattle.std.proofs.lemmas.Bool.{ltb-true, leb-true, eqb-true, eqb-false, lt-ltb, le-leb, eq-eqb, ne_eqb, and_parts, and_from, or_left, both_ways, cond-true, cond-false, cond_both}
 use Rattle.std.proofs.lemmas.Bool.Decides.{nat_tests}
 use Rattle.base.specs.Names.{letter, digit, name_byte, name_bytes, is_name}
 use Rattle.aut.specs.declared.field.Field.{Field}
-use Rattle.aut.specs.declared.field.Field.TheVariants.{Initial, Label, Comma, Bad}
+use Rattle.aut.specs.declared.field.Field.TheVariants.{Initial, Label, Comma}
 use Rattle.aut.specs.declared.field.Part.{Part}
 use Rattle.aut.specs.declared.field.Turn.{Turn}
 use Rattle.aut.specs.declared.field.Turn.TheVariants.{Next, Digit, Letter, Store}
 use Rattle.aut.specs.declared.header.Header.{Header}
 use Rattle.aut.specs.Form.{Transition, Numeral, Gap, nothing, space, all_digits, worth}
-use Rattle.aut.specs.Scanning.{State, only, numeral, no_head, turn_of, turned, next, goes, takes_digit, head_with, line_with, on, after, go_on, scan_on}
+use Rattle.aut.specs.Scanning.{State, only, numeral, no_head, turn_of, turned, next, goes, takes_digit, head_with, line_with, at_line, go_on, scan_on}
 
 abbrev pub Place : Type 0
 Place = State × List ℕ
@@ -20,22 +21,39 @@ Place = State × List ℕ
 abbrev pub Reads : State → List ℕ → Place → Type 0
 Reads s t r = scan_on s t ≡ Some r
 
--- the same of a state that a byte has just led to
-abbrev pub Arrives : State → List ℕ → Place → Type 0
-Arrives s t r = go_on (after s.field) s t (scan_on s t) ≡ Some r
+-- the same of what a byte has led to
+abbrev pub Arrives : Option State → List ℕ → Place → Type 0
+Arrives o t r = go_on o t (λ z. scan_on z t) ≡ Some r
 
 -- None is never Some
 pub no_way : {X : Type 0} (A : Type 0) {x : X} → None ≡ Some x → A
 no_way A e = let z : ◌≡◌ {A = ℕ} 0 1 = cc in absurd (omega arith)
 
-onward : (s : State) (t : List ℕ) {r : Place} → after s.field ≡ on → Arrives s t r → Reads s t r
-onward s t {r} o e = subst (λ a. go_on a s t (scan_on s t) ≡ Some r) o e
+onward : (s : State) (t : List ℕ) {r : Place} → at_line s.field ≡ false → Arrives (Some s) t r → Reads s t r
+onward s t o e = sym (cond-false _ _ _ o) ∙ e
 
-arrived : (s : State) (t : List ℕ) {r : Place} → after s.field ≡ on → Reads s t r → Arrives s t r
-arrived s t {r} o e = subst (λ a. go_on a s t (scan_on s t) ≡ Some r) (sym o) e
+arrived : (s : State) (t : List ℕ) {r : Place} → at_line s.field ≡ false → Reads s t r → Arrives (Some s) t r
+arrived s t o e = cond-false _ _ _ o ∙ e
+
+-- a line takes bytes
+pub shorter : (s s' : State) (t t' : List ℕ) → Reads s t (s', t') → length t' < length t
+shorter s s' [] t' e = no_way _ e
+shorter s s' (b ∷ t) t' e = by-next (next s b) (λ z. shorter z s' t t') e
+  where
+    by-next : (o : Option State) → ((z : State) → Reads z t (s', t') → length t' < length t) → Arrives o t (s', t') → length t' < suc (length t)
+    by-next None rest a = no_way _ a
+    by-next (Some z) rest a =
+        cond_both (at_line z.field) (Some (z, t)) (scan_on z t) (λ x. x ≡ Some (s', t') → length t' < suc (length t))
+        (λ _ k. let p : ◌≡◌ {A = Place} (z, t) (s', t') = cc in omega (arith, ap (λ y. length y.1) p))
+        (λ _ k. omega (arith, rest z k))
+        a
+
+-- what a turn comes to, if there is one
+abbrev pub turned_by : ℕ → State → Option Turn → Option State
+turned_by b s = option_and_then (turned b s)
 
 -- one byte that leads on
-steps : (s s' : State) (b : ℕ) (t : List ℕ) {r : Place} → next s b ≡ s' → after s'.field ≡ on → Reads s' t r → Reads s (b ∷ t) r
+steps : (s s' : State) (b : ℕ) (t : List ℕ) {r : Place} → next s b ≡ Some s' → at_line s'.field ≡ false → Reads s' t r → Reads s (b ∷ t) r
 steps s s' b t {r} e o h = subst (λ x. Arrives x t r) (sym e) (arrived s' t o h)
 
 -- a text that begins with a piece and the bytes that end it, and the way from there
@@ -58,38 +76,39 @@ in_parts G k f = f k.piece k.rest k.is k.splits k.goes_on
 
 -- one byte, and no other
 module _ (s : State) (f : Field) (c : ℕ) (law : (b : ℕ) → turn_of s.field b ≡ only c b (Next f)) where
-  pub byte_out : (G : Type 0) (t : List ℕ) {r : Place} → Reads s t r → ((t' : List ℕ) → t ≡ c ∷ t' → Arrives (goes f s) t' r → G) → G
+  pub byte_out : (G : Type 0) (t : List ℕ) {r : Place} → Reads s t r → ((t' : List ℕ) → t ≡ c ∷ t' → Arrives (Some (goes f s)) t' r → G) → G
   byte_out G [] e k = no_way _ e
   byte_out G (b ∷ t) {r} e k =
-      cond_both (eqb b c) (Next f) (Next Bad) (λ x. Arrives (turned x b s) t r → G)
+      cond_both (eqb b c) (Some (Next f)) None (λ x. Arrives (turned_by b s x) t r → G)
       (λ h a. k t (ap (λ x. x ∷ t) (eqb-true b c h)) a)
       (λ _ a. no_way _ a)
-      (subst (λ x. Arrives (turned x b s) t r) (law b) e)
+      (subst (λ x. Arrives (turned_by b s x) t r) (law b) e)
 
 -- a gap: one space is passed over, and what comes after it is read as if it were not there
-module _ (g f : Field) (s : State) (law : (b : ℕ) → turn_of g b ≡ cond (eqb b 32) (Next f) (turn_of f b)) (shut : turn_of f 32 ≡ Next Bad) (more : after f ≡ on) where
-  same_turn : (x : Turn) (b : ℕ) → turned x b (goes f s) ≡ turned x b (goes g s)
-  same_turn (Next h) b = refl
-  same_turn (Digit h) b = refl
-  same_turn Letter b = refl
-  same_turn (Store p h) b = refl
+module _ (g f : Field) (s : State) (law : (b : ℕ) → turn_of g b ≡ cond (eqb b 32) (Some (Next f)) (turn_of f b)) (shut : turn_of f 32 ≡ None) (more : at_line f ≡ false) where
+  same_turn : (x : Option Turn) (b : ℕ) → turned_by b (goes f s) x ≡ turned_by b (goes g s) x
+  same_turn None b = refl
+  same_turn (Some (Next h)) b = refl
+  same_turn (Some (Digit h)) b = refl
+  same_turn (Some Letter) b = refl
+  same_turn (Some (Store p h)) b = refl
 
   gap_in : (x t : List ℕ) {r : Place} → Gap x → Reads (goes f s) t r → Reads (goes g s) (x ++ t) r
-  gap_in _ t space e = steps (goes g s) (goes f s) 32 t (ap (λ x. turned x 32 (goes g s)) (law 32)) more e
+  gap_in _ t space e = steps (goes g s) (goes f s) 32 t (ap (λ x. turned_by 32 (goes g s) x) (law 32)) more e
   gap_in _ [] nothing e = no_way _ e
   gap_in _ (b ∷ t) {r} nothing e =
-      subst (λ x. Arrives (turned x b (goes g s)) t r) (sym (law b))
-      (cond_both (eqb b 32) (Next f) (turn_of f b) (λ x. Arrives (turned x b (goes g s)) t r)
-      (λ h. no_way _ (subst (λ x. Arrives (turned x b (goes f s)) t r) (ap (turn_of f) (eqb-true b 32 h) ∙ shut) e))
+      subst (λ x. Arrives (turned_by b (goes g s) x) t r) (sym (law b))
+      (cond_both (eqb b 32) (Some (Next f)) (turn_of f b) (λ x. Arrives (turned_by b (goes g s) x) t r)
+      (λ h. no_way _ (subst (λ x. Arrives (turned_by b (goes f s) x) t r) (ap (turn_of f) (eqb-true b 32 h) ∙ shut) e))
       (λ _. subst (λ x. Arrives x t r) (same_turn (turn_of f b) b) e))
 
   gap_out : (t : List ℕ) {r : Place} → Reads (goes g s) t r → Split Gap [] (λ _. goes f s) t r
   gap_out [] e = no_way _ e
   gap_out (b ∷ t) {r} e =
-      cond_both (eqb b 32) (Next f) (turn_of f b) (λ x. Arrives (turned x b (goes g s)) t r → Split Gap [] (λ _. goes f s) (b ∷ t) r)
+      cond_both (eqb b 32) (Some (Next f)) (turn_of f b) (λ x. Arrives (turned_by b (goes g s) x) t r → Split Gap [] (λ _. goes f s) (b ∷ t) r)
       (λ h a. record { piece = 32 ∷ []; rest = t; is = space; splits = ap (λ x. x ∷ t) (eqb-true b 32 h); goes_on = onward (goes f s) t more a })
       (λ _ a. record { piece = []; rest = b ∷ t; is = nothing; splits = refl; goes_on = subst (λ x. Arrives x t r) (sym (same_turn (turn_of f b) b)) a })
-      (subst (λ x. Arrives (turned x b (goes g s)) t r) (law b) e)
+      (subst (λ x. Arrives (turned_by b (goes g s) x) t r) (law b) e)
 
   pub gap : Stage (goes g s) Gap [] (λ _. goes f s)
   gap = record { forth = gap_in; back = gap_out }
@@ -142,16 +161,16 @@ counted p f h l n = record { field = f; number = 0; digits = 0; head = head_with
 
 -- a numeral and the byte that ends it
 module _ (f g : Field) (c : ℕ) (p : Part) (h : Header) (l : Transition)
-    (law : (b : ℕ) → turn_of f b ≡ numeral f c p g b) (stop : digit c ≡ false) (on-f : after f ≡ on) (on-g : after g ≡ on) where
+    (law : (b : ℕ) → turn_of f b ≡ numeral f c p g b) (stop : digit c ≡ false) (on-f : at_line f ≡ false) (on-g : at_line g ≡ false) where
   digits_in : (x t : List ℕ) (v d : ℕ) {r : Place} → Rest v d x → Reads (counted p g h l (worth v x)) t r → Reads (counting f h l v d) (x ++ c ∷ t) r
   digits_in [] t v d k e =
       let some : eqb d 0 ≡ false = ne_eqb d 0 (λ z. absurd (omega (arith, k.some_digits))) in
       steps (counting f h l v d) (counted p g h l v) c t
-      (ap (λ x. turned x c (counting f h l v d)) (law c ∙ cond-false _ _ _ stop ∙ cond-true _ _ _ (eq-eqb c c refl)) ∙ cond-false _ _ _ some) on-g e
+      (ap (λ x. turned_by c (counting f h l v d) x) (law c ∙ cond-false _ _ _ stop ∙ cond-true _ _ _ (eq-eqb c c refl)) ∙ cond-false _ _ _ some) on-g e
   digits_in (b ∷ x) t v d k e =
       let q = less v d b x k in
       steps (counting f h l v d) (counting f h l (v * 10 + (b - 48)) (d + 1)) b (x ++ c ∷ t)
-      (ap (λ x. turned x b (counting f h l v d)) (law b ∙ cond-true _ _ _ q.0) ∙ cond-true _ _ _ q.1) on-f
+      (ap (λ x. turned_by b (counting f h l v d) x) (law b ∙ cond-true _ _ _ q.0) ∙ cond-true _ _ _ q.1) on-f
       (digits_in x t (v * 10 + (b - 48)) (d + 1) q.2 e)
 
   digits_out : (t : List ℕ) (v d : ℕ) {r : Place} → d ≤ 5 → (d ≡ 0 → v ≡ 0) → Reads (counting f h l v d) t r →
@@ -159,15 +178,15 @@ module _ (f g : Field) (c : ℕ) (p : Part) (h : Header) (l : Transition)
   digits_out [] v d few z e = no_way _ e
   digits_out (b ∷ t) v d {r} few z e =
       let S : Type 0 = Split (Rest v d) (c ∷ []) (λ x. counted p g h l (worth v x)) (b ∷ t) r in
-      cond_both (digit b) (Digit f) (only c b (Store p g)) (λ x. Arrives (turned x b (counting f h l v d)) t r → S)
-      (λ i. cond_both (takes_digit v d) (counting f h l (v * 10 + (b - 48)) (d + 1)) (goes Bad (counting f h l v d)) (λ x. Arrives x t r → S)
+      cond_both (digit b) (Some (Digit f)) (only c b (Store p g)) (λ x. Arrives (turned_by b (counting f h l v d) x) t r → S)
+      (λ i. cond_both (takes_digit v d) (Some (counting f h l (v * 10 + (b - 48)) (d + 1))) None (λ x. Arrives x t r → S)
       (λ u a.
       let room : d + 1 ≤ 5 = grind (arith, nat_tests) in
       let k = digits_out t (v * 10 + (b - 48)) (d + 1) room (λ n. absurd (omega arith)) (onward (counting f h l (v * 10 + (b - 48)) (d + 1)) t on-f a) in
       record { piece = b ∷ k.piece; rest = k.rest; is = more v d b k.piece z i u k.is; splits = ap (λ x. b ∷ x) k.splits; goes_on = k.goes_on })
       (λ _ a. no_way _ a))
-      (λ _. cond_both (eqb b c) (Store p g) (Next Bad) (λ x. Arrives (turned x b (counting f h l v d)) t r → S)
-      (λ i. cond_both (eqb d 0) (goes Bad (counting f h l v d)) (counted p g h l v) (λ x. Arrives x t r → S)
+      (λ _. cond_both (eqb b c) (Some (Store p g)) None (λ x. Arrives (turned_by b (counting f h l v d) x) t r → S)
+      (λ i. cond_both (eqb d 0) None (Some (counted p g h l v)) (λ x. Arrives x t r → S)
       (λ _ a. no_way _ a)
       (λ n a.
       let some : d ≡ 0 → ⊥ = eqb-false d 0 n in
@@ -179,7 +198,7 @@ module _ (f g : Field) (c : ℕ) (p : Part) (h : Header) (l : Transition)
         goes_on = onward (counted p g h l v) t on-g a;
       }))
       (λ _ a. no_way _ a))
-      (subst (λ x. Arrives (turned x b (counting f h l v d)) t r) (law b) e)
+      (subst (λ x. Arrives (turned_by b (counting f h l v d) x) t r) (law b) e)
 
   pub number : Stage (counting f h l 0 0) (λ x. Numeral x (worth 0 x)) (c ∷ []) (λ x. counted p g h l (worth 0 x))
   number = record {
@@ -217,7 +236,7 @@ module _ (a : ℕ) where
       let p = and_parts (name_byte b) (name_bytes x) k in
       let room : ltb (length y) 16 ≡ true = lt-ltb _ _ (omega arith) in
       steps (naming a Label y) (naming a Label (y ++ b ∷ [])) b (x ++ 34 ∷ t)
-      (ap (λ x. turned x b (naming a Label y)) (cond-true _ _ _ p.0) ∙ cond-true _ _ _ room) refl
+      (ap (λ x. turned_by b (naming a Label y) x) (cond-true _ _ _ p.0) ∙ cond-true _ _ _ room) refl
       (letters_in x t (y ++ b ∷ []) p.1 (omega (arith, length_push y b)) (subst (λ x. Reads (naming a Comma x) t r) (sym (append_assoc y (b ∷ []) x)) e))
 
   letters_out : (t y : List ℕ) {r : Place} → length y ≤ 16 → Reads (naming a Label y) t r →
@@ -225,8 +244,8 @@ module _ (a : ℕ) where
   letters_out [] y few e = no_way _ e
   letters_out (b ∷ t) y {r} few e =
       let S : Type 0 = Split (λ x. (name_bytes x ≡ true) × (length y + length x ≤ 16)) (34 ∷ []) (λ x. naming a Comma (y ++ x)) (b ∷ t) r in
-      cond_both (name_byte b) Letter (only 34 b (Next Comma)) (λ x. Arrives (turned x b (naming a Label y)) t r → S)
-      (λ i. cond_both (ltb (length y) 16) (naming a Label (y ++ b ∷ [])) (goes Bad (naming a Label y)) (λ x. Arrives x t r → S)
+      cond_both (name_byte b) (Some Letter) (only 34 b (Next Comma)) (λ x. Arrives (turned_by b (naming a Label y) x) t r → S)
+      (λ i. cond_both (ltb (length y) 16) (Some (naming a Label (y ++ b ∷ []))) None (λ x. Arrives x t r → S)
       (λ u w.
       let room : length y < 16 = ltb-true _ _ u in
       let k = letters_out t (y ++ b ∷ []) (omega (arith, length_push y b)) w in
@@ -238,7 +257,7 @@ module _ (a : ℕ) where
         goes_on = subst (λ x. Reads (naming a Comma x) k.rest r) (append_assoc y (b ∷ []) k.piece) k.goes_on;
       })
       (λ _ w. no_way _ w))
-      (λ _. cond_both (eqb b 34) (Next Comma) (Next Bad) (λ x. Arrives (turned x b (naming a Label y)) t r → S)
+      (λ _. cond_both (eqb b 34) (Some (Next Comma)) None (λ x. Arrives (turned_by b (naming a Label y) x) t r → S)
       (λ i w. record {
         piece = [];
         rest = t;
@@ -255,13 +274,13 @@ module _ (a : ℕ) where
       let p = and_parts (leb (length (b ∷ x)) 16) (letter b && name_bytes (b ∷ x)) k in
       let q = and_parts (letter b) (name_bytes (b ∷ x)) p.1 in
       let few : suc (length x) ≤ 16 = leb-true _ _ p.0 in
-      steps (naming a Initial []) (naming a Label (b ∷ [])) b (x ++ 34 ∷ t) (ap (λ x. turned x b (naming a Initial [])) (cond-true _ _ _ q.0)) refl
+      steps (naming a Initial []) (naming a Label (b ∷ [])) b (x ++ 34 ∷ t) (ap (λ x. turned_by b (naming a Initial []) x) (cond-true _ _ _ q.0)) refl
       (letters_in x t (b ∷ []) (and_parts (name_byte b) (name_bytes x) q.1).1 (omega arith) e)
 
   name_out : (t : List ℕ) {r : Place} → Reads (naming a Initial []) t r → Split (λ x. is_name x ≡ true) (34 ∷ []) (naming a Comma) t r
   name_out [] e = no_way _ e
   name_out (b ∷ t) {r} e =
-      cond_both (letter b) Letter (Next Bad) (λ x. Arrives (turned x b (naming a Initial [])) t r → Split (λ x. is_name x ≡ true) (34 ∷ []) (naming a Comma) (b ∷ t) r)
+      cond_both (letter b) (Some Letter) None (λ x. Arrives (turned_by b (naming a Initial []) x) t r → Split (λ x. is_name x ≡ true) (34 ∷ []) (naming a Comma) (b ∷ t) r)
       (λ i w.
       let k = letters_out t (b ∷ []) (omega arith) w in
       let few : length (b ∷ k.piece) ≤ 16 = omega (arith, k.is.1) in
