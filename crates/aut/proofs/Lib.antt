@@ -1,4 +1,3 @@
-mod Folds
 mod Readings
 mod Rooms
 mod Slots

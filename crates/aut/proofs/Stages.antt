@@ -1,8 +1,8 @@
 -- The pieces of a line, one by one: the reader goes through a piece exactly where the text has one.
-use Rattle.std.proofs.Common.{◌≡◌, ℕ, suc, ◌+◌, ◌-◌, ◌*◌, ◌<◌, ◌≤◌, true, false, cond, ◌&&◌, eqb, ltb, leb, List, [], ◌∷◌, ◌++◌, length, get_or, Some, None, Option, sym, refl, ap, ◌∙◌, subst, arith}
-use Rattle.std.specs.Option.{option_and_then}
+use Rattle.std.proofs.Common.{◌≡◌, ℕ, suc, ◌+◌, ◌-◌, ◌*◌, ◌<◌, ◌≤◌, Bool, true, false, cond, not, ◌&&◌, ◌||◌, eqb, ltb, leb, List, [], ◌∷◌, ◌++◌, length, get_or, Some, None, Option, sym, refl, ap, ◌∙◌, subst, ⊎_elim, arith}
+use Rattle.std.specs.Option.{option_map, option_and_then}
 use Rattle.std.proofs.lemmas.List.{append_assoc, append-nil, length_push}
-use Rattle.std.proofs.lemmas.Bool.{ltb-true, leb-true, eqb-true, eqb-false, lt-ltb, le-leb, eq-eqb, ne_eqb, and_parts, and_from, or_left, both_ways, cond-true, cond-false, cond_both}
+use Rattle.std.proofs.lemmas.Bool.{ltb-true, leb-true, eqb-true, eqb-false, lt-ltb, le-leb, le-ltb, eq-eqb, ne_eqb, and_parts, and_from, and_left, and_right, not_from_true, not_from_false, cases_eq, cases_lt, or_left, both_ways, cond-true, cond-false, cond_both}
 use Rattle.std.proofs.lemmas.Bool.Decides.{nat_tests}
 use Rattle.base.specs.Names.{letter, digit, name_byte, name_bytes, is_name}
 use Rattle.aut.specs.declared.field.Field.{Field}
@@ -12,7 +12,7 @@ use Rattle.aut.specs.declared.field.Turn.{Turn}
 use Rattle.aut.specs.declared.field.Turn.TheVariants.{Next, Digit, Letter, Store}
 use Rattle.aut.specs.declared.header.Header.{Header}
 use Rattle.aut.specs.Form.{Transition, Numeral, Gap, nothing, space, all_digits, worth}
-use Rattle.aut.specs.Scanning.{State, only, numeral, no_head, turn_of, turned, next, goes, takes_digit, head_with, line_with, at_line, go_on, scan_on}
+use Rattle.aut.specs.Scanning.{State, only, numeral, no_head, turn_of, turned, next, goes, with_digit, head_with, line_with, at_line, go_on, scan_on}
 
 abbrev pub Place : Type 0
 Place = State × List ℕ
@@ -113,6 +113,53 @@ module _ (g f : Field) (s : State) (law : (b : ℕ) → turn_of g b ≡ cond (eq
   pub gap : Stage (goes g s) Gap [] (λ _. goes f s)
   gap = record { forth = gap_in; back = gap_out }
 
+-- the number that d digits write, if there are any
+abbrev held : ℕ → ℕ → Option ℕ
+held v d = cond (eqb d 0) None (Some v)
+
+held_more : (v d : ℕ) → held v (d + 1) ≡ Some v
+held_more v d = cond-false _ _ _ (ne_eqb (d + 1) 0 (λ e. absurd (omega arith)))
+
+-- another digit may come: at most 5, and none after a leading zero
+abbrev takes_digit : ℕ → ℕ → Bool
+takes_digit v d = not (leb 5 d || (eqb d 1 && eqb v 0))
+
+-- how large a number of d digits is
+data Sized : ℕ → ℕ → Type 0 where
+  none : Sized 0 0
+  one : {v : ℕ} → v < 10 → Sized v 1
+  two : {v : ℕ} → 10 ≤ v → v < 100 → Sized v 2
+  three : {v : ℕ} → 100 ≤ v → v < 1000 → Sized v 3
+  four : {v : ℕ} → 1000 ≤ v → v < 10000 → Sized v 4
+  five : {v : ℕ} → 10000 ≤ v → Sized v 5
+
+sized-more : {v d : ℕ} (w : ℕ) → w < 10 → takes_digit v d ≡ true → Sized v d → Sized (v * 10 + w) (d + 1)
+sized-more w h u none = one (omega arith)
+sized-more w h u (one p) = two (grind (arith, nat_tests)) (omega arith)
+sized-more w h u (two p q) = three (omega arith) (omega arith)
+sized-more w h u (three p q) = four (omega arith) (omega arith)
+sized-more w h u (four p q) = five (omega arith)
+sized-more w h u (five p) = absurd (both_ways false refl u)
+
+-- so the number alone tells whether another digit may come
+told : {v d : ℕ} (w : ℕ) → Sized v d → with_digit w (held v d) ≡ cond (takes_digit v d) (Some (v * 10 + w)) None
+told w none = let e : w ≡ 0 * 10 + w = omega arith in ap Some e
+told {v} w (one p) = ap (λ b. cond b (Some (v * 10 + w)) None) tests
+  where
+    above : (v ≡ 0 → ⊥) → 0 < v
+    above n = ⊎_elim (λ h. h) (λ h. absurd (n (omega arith))) (cases_lt 0 v)
+
+    tests : (ltb 0 v && ltb v 10000) ≡ not (eqb v 0)
+    tests =
+        ⊎_elim
+        (λ z. and_left _ _ (le-ltb 0 v (omega arith)) ∙ sym (not_from_true _ (eq-eqb v 0 z)))
+        (λ n. and_from _ _ (lt-ltb 0 v (above n)) (lt-ltb v 10000 (omega arith)) ∙ sym (not_from_false _ (ne_eqb v 0 n)))
+        (cases_eq v 0)
+told {v} w (two p q) = cond-true (ltb 0 v && ltb v 10000) _ _ (and_from _ _ (lt-ltb 0 v (omega arith)) (lt-ltb v 10000 (omega arith)))
+told {v} w (three p q) = cond-true (ltb 0 v && ltb v 10000) _ _ (and_from _ _ (lt-ltb 0 v (omega arith)) (lt-ltb v 10000 (omega arith)))
+told {v} w (four p q) = cond-true (ltb 0 v && ltb v 10000) _ _ (and_from _ _ (lt-ltb 0 v (omega arith)) (lt-ltb v 10000 (omega arith)))
+told {v} w (five p) = cond-false (ltb 0 v && ltb v 10000) _ _ (and_right _ _ (le-ltb v 10000 p))
+
 -- what may still come of a numeral with number v in d digits
 record Rest (v d : ℕ) (x : List ℕ) : Type 0 where
   in_digits : all_digits x ≡ true
@@ -120,6 +167,9 @@ record Rest (v d : ℕ) (x : List ℕ) : Type 0 where
   few_digits : d + length x ≤ 5
   zero_read : d ≡ 1 → v ≡ 0 → length x ≡ 0
   zero_alone : d ≡ 0 → get_or x 0 0 ≡ 48 → length x ≡ 1
+
+digit-low : (b : ℕ) → digit b ≡ true → b - 48 < 10
+digit-low b h = grind (arith, nat_tests)
 
 -- one digit less to come, and one more
 module _ (v d b : ℕ) (x : List ℕ) where
@@ -154,39 +204,57 @@ module _ (v d b : ℕ) (x : List ℕ) where
 
 -- where the reader stands in a numeral, and after it
 abbrev pub counting : Field → Header → Transition → ℕ → ℕ → State
-counting f h l v d = record { field = f; number = v; digits = d; head = h; line = l }
+counting f h l v d = record { field = f; number = held v d; head = h; line = l }
 
 abbrev pub counted : Part → Field → Header → Transition → ℕ → State
-counted p f h l n = record { field = f; number = 0; digits = 0; head = head_with p n h; line = line_with p n l }
+counted p f h l n = record { field = f; number = None; head = head_with p n h; line = line_with p n l }
 
 -- a numeral and the byte that ends it
 module _ (f g : Field) (c : ℕ) (p : Part) (h : Header) (l : Transition)
     (law : (b : ℕ) → turn_of f b ≡ numeral f c p g b) (stop : digit c ≡ false) (on-f : at_line f ≡ false) (on-g : at_line g ≡ false) where
-  digits_in : (x t : List ℕ) (v d : ℕ) {r : Place} → Rest v d x → Reads (counted p g h l (worth v x)) t r → Reads (counting f h l v d) (x ++ c ∷ t) r
-  digits_in [] t v d k e =
+  digit-step : (v d b : ℕ) → Sized v d → turned_by b (counting f h l v d) (Some (Digit f)) ≡ cond (takes_digit v d) (Some (counting f h l (v * 10 + (b - 48)) (d + 1))) None
+  digit-step v d b k = ap (option_map G) (told (b - 48) k) ∙ cases (takes_digit v d)
+    where
+      G : ℕ → State
+      G n = record { field = f; number = Some n; head = h; line = l }
+
+      cases : (a : Bool) → option_map G (cond a (Some (v * 10 + (b - 48))) None) ≡ cond a (Some (counting f h l (v * 10 + (b - 48)) (d + 1))) None
+      cases true = ap (λ o. Some (record { field = f; number = o; head = h; line = l })) (sym (held_more (v * 10 + (b - 48)) d))
+      cases false = refl
+
+  store-step : (v d b : ℕ) → turned_by b (counting f h l v d) (Some (Store p g)) ≡ cond (eqb d 0) None (Some (counted p g h l v))
+  store-step v d b = cases (eqb d 0)
+    where
+      cases : (a : Bool) → option_map (counted p g h l) (cond a None (Some v)) ≡ cond a None (Some (counted p g h l v))
+      cases true = refl
+      cases false = refl
+
+  digits_in : (x t : List ℕ) (v d : ℕ) {r : Place} → Sized v d → Rest v d x → Reads (counted p g h l (worth v x)) t r → Reads (counting f h l v d) (x ++ c ∷ t) r
+  digits_in [] t v d z k e =
       let some : eqb d 0 ≡ false = ne_eqb d 0 (λ z. absurd (omega (arith, k.some_digits))) in
       steps (counting f h l v d) (counted p g h l v) c t
-      (ap (λ x. turned_by c (counting f h l v d) x) (law c ∙ cond-false _ _ _ stop ∙ cond-true _ _ _ (eq-eqb c c refl)) ∙ cond-false _ _ _ some) on-g e
-  digits_in (b ∷ x) t v d k e =
+      (ap (λ x. turned_by c (counting f h l v d) x) (law c ∙ cond-false _ _ _ stop ∙ cond-true _ _ _ (eq-eqb c c refl)) ∙ store-step v d c ∙ cond-false _ _ _ some) on-g e
+  digits_in (b ∷ x) t v d z k e =
       let q = less v d b x k in
       steps (counting f h l v d) (counting f h l (v * 10 + (b - 48)) (d + 1)) b (x ++ c ∷ t)
-      (ap (λ x. turned_by b (counting f h l v d) x) (law b ∙ cond-true _ _ _ q.0) ∙ cond-true _ _ _ q.1) on-f
-      (digits_in x t (v * 10 + (b - 48)) (d + 1) q.2 e)
+      (ap (λ x. turned_by b (counting f h l v d) x) (law b ∙ cond-true _ _ _ q.0) ∙ digit-step v d b z ∙ cond-true _ _ _ q.1) on-f
+      (digits_in x t (v * 10 + (b - 48)) (d + 1) (sized-more (b - 48) (digit-low b q.0) q.1 z) q.2 e)
 
-  digits_out : (t : List ℕ) (v d : ℕ) {r : Place} → d ≤ 5 → (d ≡ 0 → v ≡ 0) → Reads (counting f h l v d) t r →
+  digits_out : (t : List ℕ) (v d : ℕ) {r : Place} → d ≤ 5 → (d ≡ 0 → v ≡ 0) → Sized v d → Reads (counting f h l v d) t r →
       Split (Rest v d) (c ∷ []) (λ x. counted p g h l (worth v x)) t r
-  digits_out [] v d few z e = no_way _ e
-  digits_out (b ∷ t) v d {r} few z e =
+  digits_out [] v d few z k e = no_way _ e
+  digits_out (b ∷ t) v d {r} few z k e =
       let S : Type 0 = Split (Rest v d) (c ∷ []) (λ x. counted p g h l (worth v x)) (b ∷ t) r in
       cond_both (digit b) (Some (Digit f)) (only c b (Store p g)) (λ x. Arrives (turned_by b (counting f h l v d) x) t r → S)
-      (λ i. cond_both (takes_digit v d) (Some (counting f h l (v * 10 + (b - 48)) (d + 1))) None (λ x. Arrives x t r → S)
+      (λ i a. cond_both (takes_digit v d) (Some (counting f h l (v * 10 + (b - 48)) (d + 1))) None (λ x. Arrives x t r → S)
       (λ u a.
       let room : d + 1 ≤ 5 = grind (arith, nat_tests) in
-      let k = digits_out t (v * 10 + (b - 48)) (d + 1) room (λ n. absurd (omega arith)) (onward (counting f h l (v * 10 + (b - 48)) (d + 1)) t on-f a) in
+      let k = digits_out t (v * 10 + (b - 48)) (d + 1) room (λ n. absurd (omega arith)) (sized-more (b - 48) (digit-low b i) u k) (onward (counting f h l (v * 10 + (b - 48)) (d + 1)) t on-f a) in
       record { piece = b ∷ k.piece; rest = k.rest; is = more v d b k.piece z i u k.is; splits = ap (λ x. b ∷ x) k.splits; goes_on = k.goes_on })
-      (λ _ a. no_way _ a))
+      (λ _ a. no_way _ a)
+      (subst (λ x. Arrives x t r) (digit-step v d b k) a))
       (λ _. cond_both (eqb b c) (Some (Store p g)) None (λ x. Arrives (turned_by b (counting f h l v d) x) t r → S)
-      (λ i. cond_both (eqb d 0) None (Some (counted p g h l v)) (λ x. Arrives x t r → S)
+      (λ i a. cond_both (eqb d 0) None (Some (counted p g h l v)) (λ x. Arrives x t r → S)
       (λ _ a. no_way _ a)
       (λ n a.
       let some : d ≡ 0 → ⊥ = eqb-false d 0 n in
@@ -196,20 +264,21 @@ module _ (f g : Field) (c : ℕ) (p : Part) (h : Header) (l : Transition)
         is = record { in_digits = refl; some_digits = omega arith; few_digits = omega arith; zero_read = λ _ _. refl; zero_alone = λ m. absurd (some m) };
         splits = ap (λ x. x ∷ t) (eqb-true b c i);
         goes_on = onward (counted p g h l v) t on-g a;
-      }))
+      })
+      (subst (λ x. Arrives x t r) (store-step v d b) a))
       (λ _ a. no_way _ a))
       (subst (λ x. Arrives (turned_by b (counting f h l v d) x) t r) (law b) e)
 
   pub number : Stage (counting f h l 0 0) (λ x. Numeral x (worth 0 x)) (c ∷ []) (λ x. counted p g h l (worth 0 x))
   number = record {
-    forth = λ x t k. digits_in x t 0 0 (record {
+    forth = λ x t k. digits_in x t 0 0 none (record {
       in_digits = k.in_digits;
       some_digits = omega (arith, k.some_digits);
       few_digits = omega (arith, k.few_digits);
       zero_read = λ e. absurd (omega arith);
       zero_alone = λ _. k.zero_alone;
     });
-    back = λ t e. let k = digits_out t 0 0 (omega arith) (λ z. z) e in record {
+    back = λ t e. let k = digits_out t 0 0 (omega arith) (λ z. z) none e in record {
       piece = k.piece;
       rest = k.rest;
       is = record {
@@ -226,7 +295,7 @@ module _ (f g : Field) (c : ℕ) (p : Part) (h : Header) (l : Transition)
 
 -- where the reader stands in a line, from its source on
 abbrev pub naming : ℕ → Field → List ℕ → State
-naming a f y = record { field = f; number = 0; digits = 0; head = no_head; line = record { from = a; label = y; to = 0 } }
+naming a f y = record { field = f; number = None; head = no_head; line = record { from = a; label = y; to = 0 } }
 
 -- a name and the quote that ends it
 module _ (a : ℕ) where

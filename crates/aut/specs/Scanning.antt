@@ -1,5 +1,5 @@
 -- How the reader goes through a line, byte by byte. Form.antt says what a line is; that the two agree is proved.
-use Rattle.std.specs.Prelude.{ℕ, zero, suc, ◌+◌, ◌-◌, ◌*◌, Bool, true, false, cond, not, ◌&&◌, ◌||◌, List, [], ◌∷◌, ◌++◌, length, Some, None, Option, ◌==◌, nat_le, nat_lt}
+use Rattle.std.specs.Prelude.{ℕ, zero, suc, ◌+◌, ◌-◌, ◌*◌, Bool, true, false, cond, ◌&&◌, List, [], ◌∷◌, ◌++◌, length, Some, None, Option, ◌==◌, nat_lt}
 use Rattle.base.specs.Names.{letter, digit, name_byte}
 use Rattle.aut.specs.declared.field.Field.{Field}
 use Rattle.aut.specs.declared.field.Field.TheVariants.{D, E, S, Blank, HeadOpen, Start, CountGap, Count, StatesGap, States, HeadEnd, Open, From, LabelGap, Quote, Initial, Label, Comma, ToGap, To, LineEnd}
@@ -46,8 +46,7 @@ turn_of LineEnd b = only 10 b (Next Open)
 -- where the reader stands in a line
 pub record State : Type 0 where
   pub field : Field
-  pub number : ℕ
-  pub digits : ℕ
+  pub number : Option ℕ
   pub head : Header
   pub line : Transition
 
@@ -59,26 +58,24 @@ no_line = record { from = 0; label = []; to = 0 }
 
 -- at the beginning of a field, with nothing read yet
 abbrev pub begin : Field → State
-begin f = record { field = f; number = 0; digits = 0; head = no_head; line = no_line }
+begin f = record { field = f; number = None; head = no_head; line = no_line }
 
 abbrev pub goes : Field → State → State
-goes f s = record { field = f; number = s.number; digits = s.digits; head = s.head; line = s.line }
+goes f s = record { field = f; number = s.number; head = s.head; line = s.line }
 
 -- one digit more: at most 5, and none after a leading zero
-abbrev pub takes_digit : ℕ → ℕ → Bool
-takes_digit n d = not (nat_le 5 d || (d == 1 && n == 0))
+abbrev pub with_digit : ℕ → Option ℕ → Option ℕ
+with_digit v None = Some v
+with_digit v (Some n) = cond (nat_lt 0 n && nat_lt n 10000) (Some (n * 10 + v)) None
 
 abbrev pub digit_in : Field → ℕ → State → Option State
-digit_in f v s =
-    cond (takes_digit s.number s.digits)
-    (Some (record { field = f; number = s.number * 10 + v; digits = s.digits + 1; head = s.head; line = s.line }))
-    None
+digit_in f v s = option_map (λ n. record { field = f; number = Some n; head = s.head; line = s.line }) (with_digit v s.number)
 
 -- one letter more: at most 16
 abbrev pub letter_in : ℕ → State → Option State
 letter_in b s =
     cond (nat_lt (length s.line.label) 16)
-    (Some (record { field = Label; number = s.number; digits = s.digits; head = s.head; line = record { from = s.line.from; label = s.line.label ++ b ∷ []; to = s.line.to } }))
+    (Some (record { field = Label; number = s.number; head = s.head; line = record { from = s.line.from; label = s.line.label ++ b ∷ []; to = s.line.to } }))
     None
 
 -- what the number read is for
@@ -98,9 +95,7 @@ line_with Target n l = record { from = l.from; label = l.label; to = n }
 
 -- the number ends, if it has a digit
 abbrev pub store_in : Part → Field → State → Option State
-store_in p f s =
-    cond (s.digits == 0) None
-    (Some (record { field = f; number = 0; digits = 0; head = head_with p s.number s.head; line = line_with p s.number s.line }))
+store_in p f s = option_map (λ n. record { field = f; number = None; head = head_with p n s.head; line = line_with p n s.line }) s.number
 
 abbrev pub turned : ℕ → State → Turn → Option State
 turned b s (Next f) = Some (goes f s)

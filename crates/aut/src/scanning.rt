@@ -1,4 +1,4 @@
-ghost use Rattle.std.specs.Prelude.{◌≡◌, ◌<◌};
+ghost use Rattle.std.specs.Prelude.{◌≡◌};
 ghost use Rattle.std.specs.Option.{option_map};
 ghost use Rattle.aut.specs.Scanning.{begin, digit_in, letter_in, store_in, next, scan_on};
 ghost use Rattle.aut.specs.Views.{view};
@@ -25,8 +25,7 @@ impl Scan {
         };
         Scan {
             field,
-            number: 0,
-            digits: 0,
+            number: None,
             header,
             line,
         }
@@ -34,14 +33,15 @@ impl Scan {
 
     // One digit more: at most 5, and none after a leading zero.
     fn digit(&mut self, field: Field, value: u8) -> Option<()>
-        requires { value < 10 }
         ensures { option_map (λ _. view self.new) result ≡ digit_in field value (view self.old) }
     {
-        if self.digits >= 5 || (self.digits == 1 && self.number == 0) {
-            return None;
-        }
-        self.number = self.number * 10 + value as usize;
-        self.digits += 1;
+        let value = value as usize;
+        let number = match self.number {
+            None => value,
+            Some(number) if 0 < number && number < 10_000 => number * 10 + value,
+            Some(_) => return None,
+        };
+        self.number = Some(number);
         self.field = field;
         Some(())
     }
@@ -61,12 +61,7 @@ impl Scan {
     fn store(&mut self, part: Part, field: Field) -> Option<()>
         ensures { option_map (λ _. view self.new) result ≡ store_in part field (view self.old) }
     {
-        if self.digits == 0 {
-            return None;
-        }
-        let number = self.number;
-        self.number = 0;
-        self.digits = 0;
+        let number = self.number.take()?;
         self.field = field;
         match part {
             Part::StartState => self.header.start = number,
