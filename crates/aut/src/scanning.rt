@@ -97,7 +97,7 @@ pub(crate) fn scan_line(text: &[u8], field: Field) -> Option<(Scan, &[u8])>
     let mut rest = text;
     while let Some((byte, after)) = rest.split_first() {
         scan.step(*byte)?;
-        if matches!(scan.field, Field::Open) {
+        if scan.field == Field::Open {
             return Some((scan, after));
         }
         rest = after;

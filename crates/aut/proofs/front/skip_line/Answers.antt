@@ -1,4 +1,4 @@
-use Rattle.std.proofs.Common.{◌≡◌, ◌+◌, ◌==◌, length, drop, rules}
+use Rattle.std.proofs.Common.{rules}
 use Rattle.std.proofs.lemmas.List.{take_rest}
 use Rattle.aut.proofs.Fronts.{first-line, no_line-ends}
 use Rattle.aut.proofs.front.skip_line.Goals as goal

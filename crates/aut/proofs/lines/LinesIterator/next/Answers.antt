@@ -1,4 +1,4 @@
-use Rattle.std.proofs.Common.{◌+◌, ◌-◌, ◌<◌, length, sym, arith}
+use Rattle.std.proofs.Common.{◌<◌, length, sym, arith}
 use Rattle.aut.specs.declared.field.Field.TheVariants.{Open}
 use Rattle.aut.specs.Scanning.{begin}
 use Rattle.aut.specs.Views.{view}

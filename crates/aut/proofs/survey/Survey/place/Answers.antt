@@ -2,7 +2,7 @@ use Rattle.std.proofs.Common.{◌≡◌, ℕ, ◌+◌, ◌<◌, true, false, Lis
 use Rattle.base.specs.declared.refusal.Refusal.{Refusal}
 use Rattle.base.specs.Listing.{add_answer, add_names}
 use Rattle.base.specs.Labels.{listed}
-use Rattle.std.proofs.lemmas.Bool.{le-leb, lt-leb, cond-true, cond-false}
+use Rattle.std.proofs.lemmas.Bool.{lt-leb, cond-false}
 use Rattle.aut.specs.Form.{Transition}
 use Rattle.aut.specs.Views.{line_of}
 use Rattle.aut.specs.Surveys.{inside_of, room_of, Seen, seen, named, placed}
