@@ -9,18 +9,20 @@ use Rattle.aut.specs.declared.survey.Fit.TheVariants.{Whole, Crowded, Outside}
 use Rattle.aut.specs.declared.survey.Survey.{Survey}
 use Rattle.aut.specs.Form.{Transition}
 
--- the names so far, how many transitions each state has, whether all states were in range, and whether there was room
+-- the names so far, how many transitions each state has, whether all states were in range, and whether there was room for all
 pub record Seen : Type 0 where
   pub names : List (List ℕ)
   pub counts : List ℕ
   pub inside : Bool
   pub room : Bool
 
+-- what a fit says: all states so far are in range
 abbrev pub inside_of : Fit → Bool
 inside_of Whole = true
 inside_of Crowded = true
 inside_of Outside = false
 
+-- and there is room for all lines so far
 abbrev pub room_of : Fit → Bool
 room_of Whole = true
 room_of Crowded = false
@@ -36,6 +38,7 @@ within n l = nat_lt l.from n && nat_lt l.to n
 abbrev pub no_room : Seen → Seen
 no_room v = record { names = v.names; counts = v.counts; inside = v.inside; room = false }
 
+-- a state out of range, after which nothing is noted
 abbrev pub outside : Seen → Seen
 outside v = record { names = v.names; counts = v.counts; inside = false; room = false }
 

@@ -11,8 +11,8 @@ use base::refusal::Refusal;
 // The lines after line one, as many as it announces. A line that is not of the form is refused, and so is text after the last.
 #[derive(Drop)]
 pub(crate) struct Lines<'a> {
-    pub(crate) text: &'a [u8],
-    pub(crate) left: usize,
+    text: &'a [u8],
+    left: usize,
 }
 
 impl<'a> Lines<'a> {
