@@ -1,7 +1,7 @@
 -- A model at the front of an input: how long it is, and that it is so in one way only.
-use Rattle.std.proofs.Common.{◌≡◌, ℕ, suc, ◌+◌, ◌-◌, ◌<◌, ◌≤◌, false, cond, eqb, ltb, List, length, get_or, take, drop, Some, None, Ok, Err, Option, Result, sym, refl, ap, ◌∙◌, subst, add-zero, arith}
+use Rattle.std.proofs.Common.{◌≡◌, ℕ, zero, suc, ◌+◌, ◌-◌, ◌<◌, ◌≤◌, false, eqb, ltb, List, [], ◌∷◌, ◌++◌, length, get_or, take, drop, Some, None, Ok, Err, Option, Result, sym, refl, ap, ◌∙◌, subst, arith}
 use Rattle.std.specs.Option.{option_map}
-use Rattle.std.proofs.lemmas.List.{at_drop_more, at_drop_all, length-append, length-drop}
+use Rattle.std.proofs.lemmas.List.{length-append, length-drop}
 use Rattle.std.proofs.lemmas.Bool.{both_ways, cond-true, cond-false, eq-eqb, ne_eqb}
 use Rattle.base.specs.declared.refusal.Refusal.{Refusal}
 use Rattle.base.specs.declared.refusal.Refusal.TheVariants.{Garbled}
@@ -11,42 +11,60 @@ use Rattle.aut.specs.declared.field.Field.TheVariants.{D}
 use Rattle.aut.specs.declared.header.Header.{Header}
 use Rattle.aut.specs.Scanning.{State, begin, scan_on}
 use Rattle.aut.specs.Reading.{Read}
-use Rattle.aut.specs.Front.{lines_length, ModelFront, header_of, FrontRead}
+use Rattle.aut.specs.Front.{lines_length, FirstLine, ModelFront, header_of, FrontRead}
 use Rattle.aut.proofs.Readings.{same, line-one_in, line_one_out}
 
--- one byte more before the lines that are left
-one_on : (i : ℕ) (o : Option ℕ) → option_map (λ k. i + 1 + k) o ≡ option_map (λ k. i + k) (option_map (λ n. n + 1) o)
-one_on i None = refl
-one_on i (Some k) = let e : i + 1 + k ≡ i + (k + 1) = omega arith in ap Some e
+-- one line fewer is left
+one_left : (m i : ℕ) → i < m → m - i ≡ suc (m - (i + 1))
+one_left m i h = omega arith
 
-module _ (text : List ℕ) (i left : ℕ) (inside : i < length text) (some : left ≡ 0 → ⊥) where
-  a-line : left ≡ suc (left - 1)
-  a-line = omega arith
+-- the first line: the bytes up to the first 10
+pub line-ends : (k i : ℕ) (t : List ℕ) → i < length t → get_or t i 0 ≡ 10 → ((j : ℕ) → j < i → get_or t j 0 ≡ 10 → ⊥) →
+    lines_length (suc k) t ≡ option_map (λ n. n + (i + 1)) (lines_length k (drop (i + 1) t))
+line-ends k zero [] h e before = absurd (omega arith)
+line-ends k (suc i) [] h e before = absurd (omega arith)
+line-ends k zero (b ∷ t) h e before = ap (option_map (λ n. n + 1)) (cond-true _ _ _ (eq-eqb b 10 e)) ∙ refl
+line-ends k (suc i) (b ∷ t) h e before =
+    ap (option_map (λ n. n + 1)) (cond-false (eqb b 10) (lines_length k t) (lines_length (suc k) t) (ne_eqb b 10 (before 0 (omega arith))))
+    ∙ ap (option_map (λ n. n + 1)) (line-ends k i t (omega arith) e (λ j l. before (suc j) (omega arith)))
+    ∙ one_more (lines_length k (drop (i + 1) t)) ∙ ap (λ m. option_map (λ n. n + m) (lines_length k (drop m (b ∷ t)))) longer
+  where
+    longer : suc (i + 1) ≡ suc i + 1
+    longer = omega arith
 
-  step : lines_length (suc (left - 1)) (drop i text)
-      ≡ option_map (λ n. n + 1) (cond (eqb (get_or text i 0) 10) (lines_length (left - 1) (drop (i + 1) text)) (lines_length (suc (left - 1)) (drop (i + 1) text)))
-  step = at_drop_more (lines_length (suc (left - 1))) text i 0 inside
+    one_more : (o : Option ℕ) → option_map (λ n. n + 1) (option_map (λ n. n + (i + 1)) o) ≡ option_map (λ n. n + suc (i + 1)) o
+    one_more None = refl
+    one_more (Some n) = let e : n + (i + 1) + 1 ≡ n + suc (i + 1) = omega arith in ap Some e
 
-  whole : option_map (λ k. i + k) (lines_length left (drop i text))
-      ≡ option_map (λ k. i + 1 + k) (cond (eqb (get_or text i 0) 10) (lines_length (left - 1) (drop (i + 1) text)) (lines_length left (drop (i + 1) text)))
-  whole =
-      ap (λ m. option_map (λ k. i + k) (lines_length m (drop i text))) a-line ∙ ap (option_map (λ k. i + k)) step
-      ∙ sym (one_on i (cond (eqb (get_or text i 0) 10) (lines_length (left - 1) (drop (i + 1) text)) (lines_length (suc (left - 1)) (drop (i + 1) text))))
-      ∙ ap (λ m. option_map (λ k. i + 1 + k) (cond (eqb (get_or text i 0) 10) (lines_length (left - 1) (drop (i + 1) text)) (lines_length m (drop (i + 1) text)))) (sym a-line)
+pub no_line-ends : (k : ℕ) (t : List ℕ) → ((j : ℕ) → j < length t → get_or t j 0 ≡ 10 → ⊥) → lines_length (suc k) t ≡ None
+no_line-ends k [] none = refl
+no_line-ends k (b ∷ t) none =
+    ap (option_map (λ n. n + 1)) (cond-false (eqb b 10) (lines_length k t) (lines_length (suc k) t) (ne_eqb b 10 (none 0 (omega arith))))
+    ∙ ap (option_map (λ n. n + 1)) (no_line-ends k t (λ j l. none (suc j) (omega arith)))
 
-  pub line-ends : get_or text i 0 ≡ 10 → option_map (λ k. i + k) (lines_length left (drop i text)) ≡ option_map (λ k. i + 1 + k) (lines_length (left - 1) (drop (i + 1) text))
-  line-ends e = whole ∙ ap (option_map (λ k. i + 1 + k)) (cond-true _ _ _ (eq-eqb _ _ e))
+pub first-line : (i : ℕ) (t rest : List ℕ) → i < length t → get_or t i 0 ≡ 10 → ((j : ℕ) → j < i → get_or t j 0 ≡ 10 → ⊥) → rest ≡ drop (i + 1) t → FirstLine t rest
+first-line i t rest h e before r =
+    let long : length rest ≡ length t - (i + 1) = ap length r ∙ length-drop (i + 1) t in
+    let m : length t - length rest ≡ i + 1 = omega arith in
+    record {
+      shorter = omega arith;
+      lines = λ k. line-ends k i t h e before ∙ ap (λ x. option_map (λ n. n + (i + 1)) (lines_length k x)) (sym r) ∙ ap (λ x. option_map (λ n. n + x) (lines_length k rest)) (sym m);
+    }
 
-  pub line-goes_on : (get_or text i 0 ≡ 10 → ⊥) → option_map (λ k. i + k) (lines_length left (drop i text)) ≡ option_map (λ k. i + 1 + k) (lines_length left (drop (i + 1) text))
-  line-goes_on ne = whole ∙ ap (option_map (λ k. i + 1 + k)) (cond-false _ _ _ (ne_eqb _ _ ne))
+-- a line more, counted from the beginning of the whole text
+pub further : (whole : ℕ) (lines i : ℕ) (t rest : List ℕ) → i < lines → length t ≤ whole → FirstLine t rest →
+    option_map (λ n. whole - length rest + n) (lines_length (lines - (i + 1)) rest) ≡ option_map (λ n. whole - length t + n) (lines_length (lines - i) t)
+further whole lines i t rest h w f =
+    sym (ap (λ k. option_map (λ n. whole - length t + n) (lines_length k t)) (one_left lines i h)
+    ∙ ap (option_map (λ n. whole - length t + n)) (f.lines (lines - (i + 1))) ∙ joined (lines_length (lines - (i + 1)) rest))
+  where
+    joined : (o : Option ℕ) → option_map (λ n. whole - length t + n) (option_map (λ n. n + (length t - length rest)) o) ≡ option_map (λ n. whole - length rest + n) o
+    joined None = refl
+    joined (Some n) = let e : whole - length t + (n + (length t - length rest)) ≡ whole - length rest + n = omega (arith, f.shorter) in ap Some e
 
-pub no_line_left : (i left : ℕ) (t : List ℕ) → left ≡ 0 → option_map (λ k. i + k) (lines_length left t) ≡ Some i
-no_line_left i left t e = ap (λ m. option_map (λ k. i + k) (lines_length m t)) e ∙ ap Some (add-zero i)
-
-pub no_text_left : (i left : ℕ) (text : List ℕ) → (left ≡ 0 → ⊥) → length text ≤ i → option_map (λ k. i + k) (lines_length left (drop i text)) ≡ None
-no_text_left i left text some h =
-    let e : left ≡ suc (left - 1) = omega arith in
-    ap (λ m. option_map (λ k. i + k) (lines_length m (drop i text))) e ∙ ap (option_map (λ k. i + k)) (at_drop_all (lines_length (suc (left - 1))) text i h)
+pub broken : (whole : ℕ) (lines i : ℕ) (t : List ℕ) → i < lines → ((k : ℕ) → lines_length (suc k) t ≡ None) → option_map (λ n. whole - length t + n) (lines_length (lines - i) t) ≡ None
+broken whole lines i t h none =
+    ap (λ k. option_map (λ n. whole - length t + n) (lines_length k t)) (one_left lines i h) ∙ ap (option_map (λ n. whole - length t + n)) (none (lines - (i + 1)))
 
 -- line one as the reader finds it is the only one
 module _ (input : List ℕ) where
@@ -61,30 +79,32 @@ module _ (input : List ℕ) where
       nothing : {X : Type 0} {x : X} → ◌≡◌ {A = Option X} None (Some x) → ⊥
       nothing z = let y : ◌≡◌ {A = ℕ} 0 1 = cc in omega arith
 
-  module _ (at : ℕ) (s : State) (bound : at ≤ length input) (first : scan_on (begin D) input ≡ Some (s, drop at input)) where
-    pub front-is : (n : ℕ) → ModelFront input n → option_map (λ k. at + k) (lines_length s.head.transitions (drop at input)) ≡ Some n
+  module _ (s : State) (body : List ℕ) (first : scan_on (begin D) input ≡ Some (s, body)) where
+    -- how long line one is
+    pub long : (first : List ℕ) → input ≡ first ++ body → length first ≡ length input - length body
+    long x e = omega (arith, ap length e, length-append x body)
+
+    pub front-is : (n : ℕ) → ModelFront input n → option_map (λ k. length input - length body + k) (lines_length s.head.transitions body) ≡ Some n
     front-is n k =
         let q = found n k in
         let both = same (sym first ∙ q.1) in
-        let rest : drop at input ≡ k.rest = ap (λ p. p.1) both in
-        let long : at ≡ length k.first = omega (arith, ap length k.reads, length-append k.first k.rest, ap length rest, length-drop at input) in
+        let rest : body ≡ k.rest = ap (λ p. p.1) both in
         let head : s.head ≡ k.header = ap (λ p. p.0.head) both ∙ q.2 in
-        ap (λ x. option_map (λ j. x + j) (lines_length s.head.transitions (drop at input))) long
-        ∙ ap (λ x. option_map (λ j. length k.first + j) (lines_length x.transitions (drop at input))) head
+        ap (λ x. option_map (λ j. x + j) (lines_length s.head.transitions body)) (sym (long k.first (k.reads ∙ ap (λ x. k.first ++ x) (sym rest))))
+        ∙ ap (λ x. option_map (λ j. length k.first + j) (lines_length x.transitions body)) head
         ∙ ap (λ x. option_map (λ j. length k.first + j) (lines_length k.header.transitions x)) rest
         ∙ k.lines
 
-    pub front_made : (n : ℕ) → option_map (λ k. at + k) (lines_length s.head.transitions (drop at input)) ≡ Some n → ModelFront input n
+    pub front_made : (n : ℕ) → option_map (λ k. length input - length body + k) (lines_length s.head.transitions body) ≡ Some n → ModelFront input n
     front_made n e =
-        let q = line_one_out input s (drop at input) first in
-        let long : at ≡ length q.0 = omega (arith, ap length q.2, length-append q.0 (drop at input), length-drop at input) in
+        let q = line_one_out input s body first in
         record {
           header = s.head;
           first = q.0;
-          rest = drop at input;
+          rest = body;
           first_is = q.1;
           reads = q.2;
-          lines = ap (λ x. option_map (λ j. x + j) (lines_length s.head.transitions (drop at input))) (sym long) ∙ e;
+          lines = ap (λ x. option_map (λ j. x + j) (lines_length s.head.transitions body)) (long q.0 q.2) ∙ e;
         }
 
 -- what reading a front comes to: no model there, or one that is read as a text of its own

@@ -1,9 +1,7 @@
-mod Folds
 mod Readings
 mod Rooms
 mod Slots
 mod Stages
-mod Walks
 mod Plans
 mod Outcomes
 mod Fronts

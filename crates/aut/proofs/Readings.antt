@@ -23,7 +23,7 @@ same e = cc
 
 -- line one: its pieces
 abbrev heads : ℕ → ℕ → ℕ → Field → State
-heads a m n f = record { field = f; number = 0; digits = 0; head = record { start = a; transitions = m; states = n }; line = no_line }
+heads a m n f = record { field = f; number = None; head = record { start = a; transitions = m; states = n }; line = no_line }
 
 start : Stage (begin Start) Number (44 ∷ []) (λ x. heads (worth 0 x) 0 0 CountGap)
 start = number Start CountGap 44 StartState no_head no_line (λ b. refl) refl refl refl
@@ -111,7 +111,7 @@ module _ (a : ℕ) where
   to-gap y = gap ToGap To (naming a To y) (λ b. refl) refl refl
 
 abbrev lined : ℕ → List ℕ → ℕ → Field → State
-lined a y z f = record { field = f; number = 0; digits = 0; head = no_head; line = record { from = a; label = y; to = z } }
+lined a y z f = record { field = f; number = None; head = no_head; line = record { from = a; label = y; to = z } }
 
 target : (a : ℕ) (y : List ℕ) → Stage (naming a To y) Number (41 ∷ []) (λ x. lined a y (worth 0 x) LineEnd)
 target a y = number To LineEnd 41 Target no_head (naming a To y).line (λ b. refl) refl refl refl

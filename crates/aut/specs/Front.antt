@@ -1,5 +1,5 @@
 -- A model at the front of a longer input: line one, and as many lines more as it says.
-use Rattle.std.specs.Prelude.{◌≡◌, ℕ, zero, suc, ◌+◌, true, false, cond, List, [], ◌∷◌, ◌++◌, length, take, Some, None, Ok, Err, Option, Result, ◌==◌, nat_lt}
+use Rattle.std.specs.Prelude.{◌≡◌, ℕ, zero, suc, ◌+◌, ◌-◌, ◌<◌, true, false, cond, List, [], ◌∷◌, ◌++◌, length, take, Some, None, Ok, Err, Option, Result, ◌==◌, nat_lt}
 use Rattle.std.specs.Option.{option_map}
 use Rattle.base.specs.declared.refusal.Refusal.{Refusal}
 use Rattle.base.specs.declared.refusal.Refusal.TheVariants.{Garbled, Range}
@@ -14,6 +14,11 @@ abbrev pub lines_length : ℕ → List ℕ → Option ℕ
 lines_length zero t = Some 0
 lines_length (suc k) [] = None
 lines_length (suc k) (b ∷ t) = option_map (λ n. n + 1) (cond (b == 10) (lines_length k t) (lines_length (suc k) t))
+
+-- the rest of a text is what follows its first line
+pub record FirstLine (text rest : List ℕ) : Type 0 where
+  pub shorter : length rest < length text
+  pub lines : (k : ℕ) → lines_length (suc k) text ≡ option_map (λ n. n + (length text - length rest)) (lines_length k rest)
 
 -- The first n bytes of the input are a line one and the lines that it announces, whatever these hold.
 pub record ModelFront (input : List ℕ) (n : ℕ) : Type 0 where

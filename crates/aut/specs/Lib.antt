@@ -1,6 +1,7 @@
 pub mod Form
 pub mod Scanning
 pub mod Views
+pub mod Lines
 pub mod Surveys
 pub mod Laying
 pub mod Reading

@@ -1,53 +1,52 @@
 -- How the reader goes through a line, byte by byte. Form.antt says what a line is; that the two agree is proved.
-use Rattle.std.specs.Prelude.{ℕ, zero, suc, ◌+◌, ◌-◌, ◌*◌, Bool, cond, not, ◌&&◌, ◌||◌, List, [], ◌∷◌, ◌++◌, length, Some, None, Option, ◌==◌, nat_le, nat_lt}
+use Rattle.std.specs.Prelude.{ℕ, zero, suc, ◌+◌, ◌-◌, ◌*◌, Bool, true, false, cond, ◌&&◌, List, [], ◌∷◌, ◌++◌, length, Some, None, Option, ◌==◌, nat_lt}
 use Rattle.base.specs.Names.{letter, digit, name_byte}
 use Rattle.aut.specs.declared.field.Field.{Field}
-use Rattle.aut.specs.declared.field.Field.TheVariants.{D, E, S, Blank, HeadOpen, Start, CountGap, Count, StatesGap, States, HeadEnd, Open, From, LabelGap, Quote, Initial, Label, Comma, ToGap, To, LineEnd, Bad}
+use Rattle.aut.specs.declared.field.Field.TheVariants.{D, E, S, Blank, HeadOpen, Start, CountGap, Count, StatesGap, States, HeadEnd, Open, From, LabelGap, Quote, Initial, Label, Comma, ToGap, To, LineEnd}
 use Rattle.aut.specs.declared.field.Part.{Part}
 use Rattle.aut.specs.declared.field.Part.TheVariants.{StartState, LineCount, StateCount, Source, Target}
 use Rattle.aut.specs.declared.field.Turn.{Turn}
 use Rattle.aut.specs.declared.field.Turn.TheVariants.{Next, Digit, Letter, Store}
-use Rattle.std.specs.Option.{option_map}
+use Rattle.std.specs.Option.{option_map, option_and_then}
 use Rattle.aut.specs.declared.header.Header.{Header}
 use Rattle.aut.specs.Form.{Transition}
 
 -- only this byte goes on
-abbrev pub only : ℕ → ℕ → Turn → Turn
-only c b t = cond (b == c) t (Next Bad)
+abbrev pub only : ℕ → ℕ → Turn → Option Turn
+only c b t = cond (b == c) (Some t) None
 
 -- a numeral that ends with this byte
-abbrev pub numeral : Field → ℕ → Part → Field → ℕ → Turn
-numeral f c p g b = cond (digit b) (Digit f) (only c b (Store p g))
+abbrev pub numeral : Field → ℕ → Part → Field → ℕ → Option Turn
+numeral f c p g b = cond (digit b) (Some (Digit f)) (only c b (Store p g))
 
-abbrev pub turn_of : Field → ℕ → Turn
+-- what a byte does in a field, if it may stand there
+abbrev pub turn_of : Field → ℕ → Option Turn
 turn_of D b = only 100 b (Next E)
 turn_of E b = only 101 b (Next S)
 turn_of S b = only 115 b (Next Blank)
 turn_of Blank b = only 32 b (Next HeadOpen)
 turn_of HeadOpen b = only 40 b (Next Start)
 turn_of Start b = numeral Start 44 StartState CountGap b
-turn_of CountGap b = cond (b == 32) (Next Count) (numeral Count 44 LineCount StatesGap b)
+turn_of CountGap b = cond (b == 32) (Some (Next Count)) (numeral Count 44 LineCount StatesGap b)
 turn_of Count b = numeral Count 44 LineCount StatesGap b
-turn_of StatesGap b = cond (b == 32) (Next States) (numeral States 41 StateCount HeadEnd b)
+turn_of StatesGap b = cond (b == 32) (Some (Next States)) (numeral States 41 StateCount HeadEnd b)
 turn_of States b = numeral States 41 StateCount HeadEnd b
 turn_of HeadEnd b = only 10 b (Next Open)
 turn_of Open b = only 40 b (Next From)
 turn_of From b = numeral From 44 Source LabelGap b
-turn_of LabelGap b = cond (b == 32) (Next Quote) (only 34 b (Next Initial))
+turn_of LabelGap b = cond (b == 32) (Some (Next Quote)) (only 34 b (Next Initial))
 turn_of Quote b = only 34 b (Next Initial)
-turn_of Initial b = cond (letter b) Letter (Next Bad)
-turn_of Label b = cond (name_byte b) Letter (only 34 b (Next Comma))
+turn_of Initial b = cond (letter b) (Some Letter) None
+turn_of Label b = cond (name_byte b) (Some Letter) (only 34 b (Next Comma))
 turn_of Comma b = only 44 b (Next ToGap)
-turn_of ToGap b = cond (b == 32) (Next To) (numeral To 41 Target LineEnd b)
+turn_of ToGap b = cond (b == 32) (Some (Next To)) (numeral To 41 Target LineEnd b)
 turn_of To b = numeral To 41 Target LineEnd b
 turn_of LineEnd b = only 10 b (Next Open)
-turn_of Bad b = Next Bad
 
 -- where the reader stands in a line
 pub record State : Type 0 where
   pub field : Field
-  pub number : ℕ
-  pub digits : ℕ
+  pub number : Option ℕ
   pub head : Header
   pub line : Transition
 
@@ -59,27 +58,25 @@ no_line = record { from = 0; label = []; to = 0 }
 
 -- at the beginning of a field, with nothing read yet
 abbrev pub begin : Field → State
-begin f = record { field = f; number = 0; digits = 0; head = no_head; line = no_line }
+begin f = record { field = f; number = None; head = no_head; line = no_line }
 
 abbrev pub goes : Field → State → State
-goes f s = record { field = f; number = s.number; digits = s.digits; head = s.head; line = s.line }
+goes f s = record { field = f; number = s.number; head = s.head; line = s.line }
 
 -- one digit more: at most 5, and none after a leading zero
-abbrev pub takes_digit : ℕ → ℕ → Bool
-takes_digit n d = not (nat_le 5 d || (d == 1 && n == 0))
+abbrev pub with_digit : ℕ → Option ℕ → Option ℕ
+with_digit v None = Some v
+with_digit v (Some n) = cond (nat_lt 0 n && nat_lt n 10000) (Some (n * 10 + v)) None
 
-abbrev pub digit_in : Field → ℕ → State → State
-digit_in f v s =
-    cond (takes_digit s.number s.digits)
-    (record { field = f; number = s.number * 10 + v; digits = s.digits + 1; head = s.head; line = s.line })
-    (goes Bad s)
+abbrev pub digit_in : Field → ℕ → State → Option State
+digit_in f v s = option_map (λ n. record { field = f; number = Some n; head = s.head; line = s.line }) (with_digit v s.number)
 
 -- one letter more: at most 16
-abbrev pub letter_in : ℕ → State → State
+abbrev pub letter_in : ℕ → State → Option State
 letter_in b s =
     cond (nat_lt (length s.line.label) 16)
-    (record { field = Label; number = s.number; digits = s.digits; head = s.head; line = record { from = s.line.from; label = s.line.label ++ b ∷ []; to = s.line.to } })
-    (goes Bad s)
+    (Some (record { field = Label; number = s.number; head = s.head; line = record { from = s.line.from; label = s.line.label ++ b ∷ []; to = s.line.to } }))
+    None
 
 -- what the number read is for
 abbrev pub head_with : Part → ℕ → Header → Header
@@ -97,60 +94,52 @@ line_with Source n l = record { from = n; label = l.label; to = l.to }
 line_with Target n l = record { from = l.from; label = l.label; to = n }
 
 -- the number ends, if it has a digit
-abbrev pub store_in : Part → Field → State → State
-store_in p f s =
-    cond (s.digits == 0) (goes Bad s)
-    (record { field = f; number = 0; digits = 0; head = head_with p s.number s.head; line = line_with p s.number s.line })
+abbrev pub store_in : Part → Field → State → Option State
+store_in p f s = option_map (λ n. record { field = f; number = None; head = head_with p n s.head; line = line_with p n s.line }) s.number
 
-abbrev pub turned : Turn → ℕ → State → State
-turned (Next f) b s = goes f s
-turned (Digit f) b s = digit_in f (b - 48) s
-turned Letter b s = letter_in b s
-turned (Store p f) b s = store_in p f s
+abbrev pub turned : ℕ → State → Turn → Option State
+turned b s (Next f) = Some (goes f s)
+turned b s (Digit f) = digit_in f (b - 48) s
+turned b s Letter = letter_in b s
+turned b s (Store p f) = store_in p f s
 
--- one byte on
-abbrev pub next : State → ℕ → State
-next s b = turned (turn_of s.field b) b s
+-- one byte on, if it may stand here
+abbrev pub next : State → ℕ → Option State
+next s b = option_and_then (turned b s) (turn_of s.field b)
 
--- what comes after a byte: more of the line, the next line, or nothing that is of the form
-pub data After : Type 0 where
-  on : After
-  ended : After
-  broken : After
+-- the next line is to begin
+abbrev pub at_line : Field → Bool
+at_line D = false
+at_line E = false
+at_line S = false
+at_line Blank = false
+at_line HeadOpen = false
+at_line Start = false
+at_line CountGap = false
+at_line Count = false
+at_line StatesGap = false
+at_line States = false
+at_line HeadEnd = false
+at_line Open = true
+at_line From = false
+at_line LabelGap = false
+at_line Quote = false
+at_line Initial = false
+at_line Label = false
+at_line Comma = false
+at_line ToGap = false
+at_line To = false
+at_line LineEnd = false
 
-abbrev pub after : Field → After
-after D = on
-after E = on
-after S = on
-after Blank = on
-after HeadOpen = on
-after Start = on
-after CountGap = on
-after Count = on
-after StatesGap = on
-after States = on
-after HeadEnd = on
-after Open = ended
-after From = on
-after LabelGap = on
-after Quote = on
-after Initial = on
-after Label = on
-after Comma = on
-after ToGap = on
-after To = on
-after LineEnd = on
-after Bad = broken
-
-abbrev pub go_on : After → State → List ℕ → Option (State × List ℕ) → Option (State × List ℕ)
-go_on on s t r = r
-go_on ended s t r = Some (s, t)
-go_on broken s t r = None
+-- after a byte: the line is at its end, or there is more of it
+abbrev pub go_on : Option State → List ℕ → (State → Option (State × List ℕ)) → Option (State × List ℕ)
+go_on None t more = None
+go_on (Some s) t more = cond (at_line s.field) (Some (s, t)) (more s)
 
 -- the rest of a line: where the reader then stands, and what follows the line
 abbrev pub scan_on : State → List ℕ → Option (State × List ℕ)
 scan_on s [] = None
-scan_on s (b ∷ t) = go_on (after (next s b).field) (next s b) t (scan_on (next s b) t)
+scan_on s (b ∷ t) = go_on (next s b) t (λ z. scan_on z t)
 
 -- as many lines as are to come, and nothing after them
 abbrev pub with_line : Option (State × List ℕ) → (List ℕ → Option (List Transition)) → Option (List Transition)

@@ -1,22 +1,35 @@
 -- What the first pass over the lines finds out, before anything is written.
-use Rattle.std.specs.Prelude.{ℕ, ◌+◌, Bool, false, cond, ◌&&◌, List, [], ◌∷◌, Ok, Err, Option, Result, nat_le, nat_lt, slice_index, slice_set}
+use Rattle.std.specs.Prelude.{ℕ, ◌+◌, Bool, true, false, cond, ◌&&◌, List, [], ◌∷◌, Ok, Err, Option, Result, nat_le, nat_lt, slice_index, slice_set}
 use Rattle.std.specs.Option.{option_map}
 use Rattle.base.specs.declared.refusal.Refusal.{Refusal}
 use Rattle.base.specs.Listing.{add_answer, add_names}
 use Rattle.base.specs.Labels.{listed}
+use Rattle.aut.specs.declared.survey.Fit.{Fit}
+use Rattle.aut.specs.declared.survey.Fit.TheVariants.{Whole, Crowded, Outside}
 use Rattle.aut.specs.declared.survey.Survey.{Survey}
 use Rattle.aut.specs.Form.{Transition}
-use Rattle.aut.specs.Scanning.{lines_of}
 
--- the names so far, how many transitions each state has, whether all states were in range, and whether there was room
+-- the names so far, how many transitions each state has, whether all states were in range, and whether there was room for all
 pub record Seen : Type 0 where
   pub names : List (List ℕ)
   pub counts : List ℕ
   pub inside : Bool
   pub room : Bool
 
+-- what a fit says: all states so far are in range
+abbrev pub inside_of : Fit → Bool
+inside_of Whole = true
+inside_of Crowded = true
+inside_of Outside = false
+
+-- and there is room for all lines so far
+abbrev pub room_of : Fit → Bool
+room_of Whole = true
+room_of Crowded = false
+room_of Outside = false
+
 abbrev pub seen : Survey → Seen
-seen s = record { names = listed s.labels; counts = s.counts; inside = s.inside; room = s.room }
+seen s = record { names = listed s.labels; counts = s.counts; inside = inside_of s.fit; room = room_of s.fit }
 
 -- both states are below n
 abbrev pub within : ℕ → Transition → Bool
@@ -25,8 +38,9 @@ within n l = nat_lt l.from n && nat_lt l.to n
 abbrev pub no_room : Seen → Seen
 no_room v = record { names = v.names; counts = v.counts; inside = v.inside; room = false }
 
+-- a state out of range, after which nothing is noted
 abbrev pub outside : Seen → Seen
-outside v = record { names = v.names; counts = v.counts; inside = false; room = v.room }
+outside v = record { names = v.names; counts = v.counts; inside = false; room = false }
 
 abbrev pub named : Result ℕ Refusal → Transition → Seen → Seen
 named (Ok a) l v = record { names = add_names l.label v.names; counts = slice_set v.counts l.from (slice_index v.counts l.from + 1); inside = v.inside; room = v.room }
@@ -44,6 +58,6 @@ abbrev pub all_noted : ℕ → ℕ → Seen → List Transition → Seen
 all_noted n w v [] = v
 all_noted n w v (l ∷ ls) = all_noted n w (noted n w l v) ls
 
--- what m lines of the text show, if it has just these
-abbrev pub surveyed : ℕ → ℕ → Seen → ℕ → List ℕ → Option Seen
-surveyed n w v m t = option_map (all_noted n w v) (lines_of m t)
+-- what the lines of a text show, if it has just these
+abbrev pub surveyed : ℕ → ℕ → Seen → Option (List Transition) → Option Seen
+surveyed n w v lines = option_map (all_noted n w v) lines

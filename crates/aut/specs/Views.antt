@@ -12,7 +12,7 @@ abbrev pub line_of : Line → Transition
 line_of l = record { from = l.from; label = spelled l.label; to = l.to }
 
 abbrev pub view : Scan → State
-view s = record { field = s.field; number = s.number; digits = s.digits; head = s.header; line = line_of s.line }
+view s = record { field = s.field; number = s.number; head = s.header; line = line_of s.line }
 
 abbrev pub laid_view : List Cell → List ℕ → Laid
 laid_view cs ns = record { cells = cs; counts = ns }

@@ -2,7 +2,7 @@ ghost use Rattle.std.specs.Prelude.{◌≡◌};
 ghost use Rattle.aut.specs.Scanning.{turn_of};
 
 // The part of a line that is being read: of line one, `des (I,M,N)`, and of the others, `(s,"label",t)`. A gap is where one space may stand.
-#[derive(Clone, Copy)]
+#[derive(Clone, Copy, PartialEq, Eq)]
 pub(crate) enum Field {
     D,
     E,
@@ -25,7 +25,6 @@ pub(crate) enum Field {
     ToGap,
     To,
     LineEnd,
-    Bad,
 }
 
 // What a number is for.
@@ -47,11 +46,11 @@ pub(crate) enum Turn {
     Store(Part, Field),
 }
 
-// What a byte means depends on the field being read and on the byte.
-pub(crate) fn byte_means(field: Field, byte: u8) -> Turn
+// What a byte means depends on the field being read and on the byte. None is a byte that may not stand there.
+pub(crate) fn byte_means(field: Field, byte: u8) -> Option<Turn>
     ensures { result ≡ turn_of field byte }
 {
-    match (field, byte) {
+    let turn = match (field, byte) {
         (Field::D, b'd') => Turn::Next(Field::E),
         (Field::E, b'e') => Turn::Next(Field::S),
         (Field::S, b's') => Turn::Next(Field::Blank),
@@ -78,6 +77,7 @@ pub(crate) fn byte_means(field: Field, byte: u8) -> Turn
         (Field::ToGap, b' ') => Turn::Next(Field::To),
         (Field::ToGap | Field::To, b'0'..=b'9') => Turn::Digit(Field::To),
         (Field::ToGap | Field::To, b')') => Turn::Store(Part::Target, Field::LineEnd),
-        _ => Turn::Next(Field::Bad),
-    }
+        _ => return None,
+    };
+    Some(turn)
 }

@@ -1,6 +1,5 @@
-ghost use Rattle.std.specs.Prelude.{◌≡◌, ℕ, ◌+◌, ◌≤◌, List, length, drop, IfSome, MatchOption};
-ghost use Rattle.std.specs.Option.{option_map};
-ghost use Rattle.aut.specs.Front.{lines_length, ModelFront, FrontRead};
+ghost use Rattle.std.specs.Prelude.{◌≡◌, ℕ, suc, ◌-◌, ◌≤◌, length, Some, None, MatchOption};
+ghost use Rattle.aut.specs.Front.{lines_length, FirstLine, ModelFront, FrontRead};
 
 use crate::field::Field;
 use crate::header::Header;
@@ -10,32 +9,33 @@ use base::labels::Labels;
 use base::refusal::Refusal;
 use model::cell::Cell;
 
-// The place after some lines more, from a place of the text on.
-fn skip_lines(text: &[u8], from: usize, lines: usize) -> Option<usize>
-    requires { from ≤ length text.now }
-    ensures place { result ≡ option_map (λ k. from + k) (lines_length lines (drop from text.now)) }
-    ensures bound { IfSome result (λ n. n ≤ length text.now) }
+// The text after its first line, if that has an end.
+fn skip_line(text: &[u8]) -> Option<&[u8]>
+    ensures { MatchOption result ((k : ℕ) → lines_length (suc k) text.now ≡ None) (λ rest. FirstLine text.now rest.now) }
 {
-    let mut left = lines;
-    for i in from..text.len() {
-        if left == 0 {
-            return Some(i);
-        }
-        if text[i] == b'\n' {
-            left -= 1;
-        }
+    let end = text.iter().position(|byte| *byte == b'\n')?;
+    Some(&text[end + 1..])
+}
+
+// The text after some lines, if it has so many.
+fn skip_lines(text: &[u8], lines: usize) -> Option<&[u8]>
+    ensures { MatchOption result (lines_length lines text.now ≡ None)
+        (λ rest. (lines_length lines text.now ≡ Some (length text.now - length rest.now)) × (length rest.now ≤ length text.now)) }
+{
+    let mut rest = text;
+    for _ in 0..lines {
+        rest = skip_line(rest)?;
     }
-    if left == 0 { Some(text.len()) } else { None }
+    Some(rest)
 }
 
 // How long the model at the front of an input is: line one, and the lines that it announces.
 pub fn front_length(input: &[u8]) -> Option<usize>
     ensures { MatchOption result ((n : ℕ) → ModelFront input.now n → ⊥) (λ n. ModelFront input.now n × ((m : ℕ) → ModelFront input.now m → m ≡ n) × (n ≤ length input.now)) }
 {
-    let Some(first) = scan_line(input, 0, Field::D) else {
-        return None;
-    };
-    skip_lines(input, first.1, first.0.header.transitions)
+    let (first, body) = scan_line(input, Field::D)?;
+    let rest = skip_lines(body, first.header.transitions)?;
+    Some(input.len() - rest.len())
 }
 
 // Reads the model at the front of an input of at most `longest` bytes, and answers its length too.
@@ -52,9 +52,7 @@ pub fn read_front(
     if input.len() > longest {
         return Err(Refusal::Range);
     }
-    let Some(n) = front_length(input) else {
-        return Err(Refusal::Garbled);
-    };
-    let header = read_within(&input[0..n], labels, cells, slots, most)?;
-    Ok((header, n))
+    let length = front_length(input).ok_or(Refusal::Garbled)?;
+    let header = read_within(&input[..length], labels, cells, slots, most)?;
+    Ok((header, length))
 }

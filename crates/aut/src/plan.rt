@@ -1,10 +1,12 @@
 use crate::header::Header;
+use crate::shape::Shape;
 use base::labels::Labels;
 
-// What the first pass hands to the second: line one, the place after it, and the label list as it will be.
+// What the first pass hands to the second: line one, the text after it, the shape of the grid, and the label list as it will be.
 #[derive(Drop)]
-pub(crate) struct Plan {
+pub(crate) struct Plan<'a> {
     pub(crate) header: Header,
-    pub(crate) body: usize,
+    pub(crate) body: &'a [u8],
+    pub(crate) shape: Shape,
     pub(crate) labels: Labels,
 }

@@ -1,4 +1,5 @@
-ghost use Rattle.std.specs.Prelude.{◌≡◌, ◌+◌, ◌<◌, ◌≤◌, Bool, true, false, List, [], ◌∷◌, length, drop, Some, None, MatchOption};
+ghost use Rattle.std.specs.Prelude.{◌≡◌};
+ghost use Rattle.std.specs.Option.{option_map};
 ghost use Rattle.aut.specs.Scanning.{begin, digit_in, letter_in, store_in, next, scan_on};
 ghost use Rattle.aut.specs.Views.{view};
 
@@ -24,49 +25,43 @@ impl Scan {
         };
         Scan {
             field,
-            number: 0,
-            digits: 0,
+            number: None,
             header,
             line,
         }
     }
 
     // One digit more: at most 5, and none after a leading zero.
-    fn digit(&mut self, field: Field, value: u8)
-        requires { value < 10 }
-        ensures { view self.new ≡ digit_in field value (view self.old) }
+    fn digit(&mut self, field: Field, value: u8) -> Option<()>
+        ensures { option_map (λ _. view self.new) result ≡ digit_in field value (view self.old) }
     {
-        if self.digits >= 5 || (self.digits == 1 && self.number == 0) {
-            self.field = Field::Bad;
-            return;
-        }
-        self.number = self.number * 10 + value as usize;
-        self.digits += 1;
+        let value = value as usize;
+        let number = match self.number {
+            None => value,
+            Some(number) if 0 < number && number < 10_000 => number * 10 + value,
+            Some(_) => return None,
+        };
+        self.number = Some(number);
         self.field = field;
+        Some(())
     }
 
     // One letter more: at most 16.
-    fn letter(&mut self, byte: u8)
-        ensures { view self.new ≡ letter_in byte (view self.old) }
+    fn letter(&mut self, byte: u8) -> Option<()>
+        ensures { option_map (λ _. view self.new) result ≡ letter_in byte (view self.old) }
     {
-        if self.line.label.push(byte) {
-            self.field = Field::Label;
-        } else {
-            self.field = Field::Bad;
+        if !self.line.label.push(byte) {
+            return None;
         }
+        self.field = Field::Label;
+        Some(())
     }
 
     // The number ends, if it has a digit, and is kept.
-    fn store(&mut self, part: Part, field: Field)
-        ensures { view self.new ≡ store_in part field (view self.old) }
+    fn store(&mut self, part: Part, field: Field) -> Option<()>
+        ensures { option_map (λ _. view self.new) result ≡ store_in part field (view self.old) }
     {
-        if self.digits == 0 {
-            self.field = Field::Bad;
-            return;
-        }
-        let number = self.number;
-        self.number = 0;
-        self.digits = 0;
+        let number = self.number.take()?;
         self.field = field;
         match part {
             Part::StartState => self.header.start = number,
@@ -75,14 +70,18 @@ impl Scan {
             Part::Source => self.line.from = number,
             Part::Target => self.line.to = number,
         }
+        Some(())
     }
 
-    // One byte on.
-    fn step(&mut self, byte: u8)
-        ensures { view self.new ≡ next (view self.old) byte }
+    // One byte on, if it may stand here.
+    fn step(&mut self, byte: u8) -> Option<()>
+        ensures { option_map (λ _. view self.new) result ≡ next (view self.old) byte }
     {
-        match byte_means(self.field, byte) {
-            Turn::Next(field) => self.field = field,
+        match byte_means(self.field, byte)? {
+            Turn::Next(field) => {
+                self.field = field;
+                Some(())
+            }
             Turn::Digit(field) => self.digit(field, byte - b'0'),
             Turn::Letter => self.letter(byte),
             Turn::Store(part, field) => self.store(part, field),
@@ -90,18 +89,18 @@ impl Scan {
     }
 }
 
-// The line that begins in a field at a place of the text: what it says, and the place after it.
-pub(crate) fn scan_line(text: &[u8], from: usize, field: Field) -> Option<(Scan, usize)>
-    ensures { MatchOption result (scan_on (begin field) (drop from text.now) ≡ None) (λ p. (scan_on (begin field) (drop from text.now) ≡ Some (view p.0, drop p.1 text.now)) × (from < p.1) × (p.1 ≤ length text.now)) }
+// The line that a text begins with, from a field on: what it says, and the text after it.
+pub(crate) fn scan_line(text: &[u8], field: Field) -> Option<(Scan, &[u8])>
+    ensures { option_map (λ p. (view p.0, p.1.now)) result ≡ scan_on (begin field) text.now }
 {
     let mut scan = Scan::at(field);
-    for i in from..text.len() {
-        scan.step(text[i]);
-        match scan.field {
-            Field::Open => return Some((scan, i + 1)),
-            Field::Bad => return None,
-            _ => {}
+    let mut rest = text;
+    while let Some((byte, after)) = rest.split_first() {
+        scan.step(*byte)?;
+        if scan.field == Field::Open {
+            return Some((scan, after));
         }
+        rest = after;
     }
     None
 }

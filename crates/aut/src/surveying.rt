@@ -1,13 +1,17 @@
-ghost use Rattle.std.specs.Prelude.{◌≡◌, ℕ, ◌+◌, ◌<◌, ◌≤◌, Bool, true, false, List, [], ◌∷◌, length, drop, Some, None, MatchBool, slice_index};
+ghost use Rattle.std.specs.Prelude.{◌≡◌, ℕ, ◌<◌, true, length, Some, None, MatchResult, slice_index};
 ghost use Rattle.base.specs.Labels.{listed};
+ghost use Rattle.base.specs.declared.refusal.Refusal.TheVariants.{Garbled};
+ghost use Rattle.aut.specs.declared.survey.Fit.TheVariants.{Whole};
+ghost use Rattle.aut.specs.Lines.{lines_left};
 ghost use Rattle.aut.specs.Surveys.{seen, placed, noted, surveyed};
 ghost use Rattle.aut.specs.Views.{line_of};
 
-use crate::field::Field;
 use crate::header::Line;
-use crate::scanning::scan_line;
-use crate::survey::Survey;
+use crate::lines::Lines;
+use crate::shape::Shape;
+use crate::survey::{Fit, Survey};
 use base::labels::Labels;
+use base::refusal::Refusal;
 
 // No transition counted at any state.
 pub(crate) fn no_counts() -> [u8; 65536]
@@ -19,69 +23,61 @@ pub(crate) fn no_counts() -> [u8; 65536]
 
 impl Survey {
     // Nothing seen yet.
-    pub(crate) fn start(labels: Labels) -> Survey
+    pub(crate) fn start(labels: Labels, shape: Shape) -> Survey
+        ensures shape { result.shape ≡ shape }
         ensures names { (seen result).names ≡ listed labels }
         ensures counts { (s : ℕ) → slice_index (seen result).counts s ≡ 0 }
-        ensures flags { ((seen result).inside ≡ true) × ((seen result).room ≡ true) }
+        ensures inside { (seen result).inside ≡ true }
+        ensures room { (seen result).room ≡ true }
     {
         Survey {
+            shape,
             labels,
             counts: no_counts(),
-            inside: true,
-            room: true,
+            fit: Fit::Whole,
         }
     }
 
-    // One transition more at its state, of at most `slots`.
-    fn place(&mut self, line: &Line, slots: usize)
-        requires { (line.now.from < 65536) × (slots ≤ 64) }
-        ensures { seen self.new ≡ placed slots (line_of line.now) (seen self.old) }
+    // One transition more at its state, where it has room.
+    fn place(&mut self, line: &Line)
+        requires within { line.now.from < 65536 }
+        requires whole { self.old.fit ≡ Whole }
+        ensures shape { self.new.shape ≡ self.old.shape }
+        ensures seen { seen self.new ≡ placed self.old.shape.slots (line_of line.now) (seen self.old) }
     {
         let used = self.counts[line.from];
-        if slots <= used as usize {
-            self.room = false;
+        if self.shape.slots <= used as usize {
+            self.fit = Fit::Crowded;
             return;
         }
         match self.labels.add(line.label.as_bytes()) {
             Ok(_) => self.counts[line.from] = used + 1,
-            Err(_) => self.room = false,
+            Err(_) => self.fit = Fit::Crowded,
         }
     }
 
     // One line more.
-    fn note(&mut self, line: &Line, states: usize, slots: usize)
-        requires { (states ≤ 65536) × (slots ≤ 64) }
-        ensures { seen self.new ≡ noted states slots (line_of line.now) (seen self.old) }
+    fn note(&mut self, line: &Line)
+        ensures shape { self.new.shape ≡ self.old.shape }
+        ensures seen { seen self.new ≡ noted self.old.shape.states self.old.shape.slots (line_of line.now) (seen self.old) }
     {
-        if line.from < states && line.to < states {
-            if self.inside && self.room {
-                self.place(line, slots);
-            }
-        } else {
-            self.inside = false;
+        if !self.shape.holds(line) {
+            self.fit = Fit::Outside;
+        } else if self.fit == Fit::Whole {
+            self.place(line);
         }
     }
-}
 
-// The first pass: notes as many lines as there should be from a place of the text on. False where the text has not just these.
-pub(crate) fn survey_lines(
-    text: &[u8],
-    from: usize,
-    lines: usize,
-    states: usize,
-    slots: usize,
-    survey: &mut Survey,
-) -> bool
-    requires { (states ≤ 65536) × ((slots ≤ 64) × (from ≤ length text.now)) }
-    ensures { MatchBool result (surveyed states slots (seen survey.old) lines (drop from text.now) ≡ Some (seen survey.new)) (surveyed states slots (seen survey.old) lines (drop from text.now) ≡ None) }
-{
-    let mut at = from;
-    for _done in 0..lines {
-        let Some(found) = scan_line(text, at, Field::Open) else {
-            return false;
-        };
-        survey.note(&found.0.line, states, slots);
-        at = found.1;
+    // The first pass: notes the lines of a text that has just these.
+    pub(crate) fn note_all(&mut self, lines: Lines) -> Result<(), Refusal>
+        ensures shape { self.new.shape ≡ self.old.shape }
+        ensures seen { MatchResult result
+            (λ _. surveyed self.old.shape.states self.old.shape.slots (seen self.old) (lines_left lines.entry) ≡ Some (seen self.new))
+            (λ e. (e ≡ Garbled) × (lines_left lines.entry ≡ None)) }
+    {
+        for line in lines {
+            self.note(&line?);
+        }
+        Ok(())
     }
-    at == text.len()
 }

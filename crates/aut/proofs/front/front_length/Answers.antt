@@ -1,26 +1,38 @@
-use Rattle.std.proofs.Common.{◌≡◌, ℕ, ◌≤◌, List, length, IfSome, Some, None, Option, sym, ◌∙◌, arith, MatchOption}
-use Rattle.aut.specs.Front.{ModelFront}
+use Rattle.std.proofs.Common.{◌≡◌, ◌+◌, ◌-◌, ◌≤◌, length, Some, sym, ap, ◌∙◌, arith}
+use Rattle.std.specs.Option.{option_map}
+use Rattle.aut.specs.declared.field.Field.TheVariants.{D}
+use Rattle.aut.specs.Scanning.{begin}
+use Rattle.aut.specs.Front.{lines_length}
 use Rattle.aut.specs.Views.{view}
 use Rattle.aut.proofs.Readings.{same}
+use Rattle.aut.proofs.Stages.{no_way, shorter}
 use Rattle.aut.proofs.Fronts.{no_front, front-is, front_made}
 use Rattle.aut.proofs.front.front_length.Goals as goal
 
--- what the lines after line one come to, if they are there
-told : (input : List ℕ) (o r : Option ℕ) → ((n : ℕ) → ModelFront input n → o ≡ Some n) → ((n : ℕ) → o ≡ Some n → ModelFront input n) → r ≡ o → IfSome r (λ n. n ≤ length input) →
-    MatchOption r ((n : ℕ) → ModelFront input n → ⊥) (λ n. ModelFront input n × ((m : ℕ) → ModelFront input m → m ≡ n) × (n ≤ length input))
-told input o None is made e b = λ n k. none_some (e ∙ is n k)
-  where
-    none_some : {n : ℕ} → ◌≡◌ {A = Option ℕ} None (Some n) → ⊥
-    none_some z = let y : ◌≡◌ {A = ℕ} 0 1 = cc in omega arith
-told input o (Some n) is made e b = (made n (sym e), (λ m k. same (sym (is m k) ∙ sym e)), b)
+pub returns-in_err-first : goal.returns-in_err-first
+returns-in_err-first c = rw c.from_residual.ensures (no_front c.args.input.now (sym c.in_err-first.ensures))
 
-pub returns-in_default : goal.returns-in_default
-returns-in_default c = no_front c.args.input.now c.in_default.ensures
+pub returns-in_err-rest : goal.returns-in_err-rest
+returns-in_err-rest c =
+    let s = view c.in_ok-first.first in let body = c.in_ok-first.body.now in
+    rw c.from_residual-in_err-rest.ensures
+    (λ n k. no_way _ (sym (ap (option_map (λ j. length c.args.input.now - length body + j)) c.in_err-rest.ensures) ∙ front-is c.args.input.now s body (sym c.in_ok-first.ensures) n k))
+
+-- the text after the model is a part of the input
+part : (c : goal.In_ok-rest) → length c.in_ok-rest.rest.now ≤ length c.args.input.now
+part c =
+    let s = view c.in_ok-first.first in let body = c.in_ok-first.body.now in
+    omega (arith, shorter (begin D) s c.args.input.now body (sym c.in_ok-first.ensures), c.in_ok-rest.ensures.1)
+
+pub overflow_sub-result : goal.overflow_sub-result
+overflow_sub-result c = part c
 
 pub returns : goal.returns
 returns c =
-    let first = c.in-Some.ensures in
-    told c.args.input.now _ c.skip_lines.result
-    (front-is c.args.input.now c.in-Some.first.1 (view c.in-Some.first.0) first.2 first.0)
-    (front_made c.args.input.now c.in-Some.first.1 (view c.in-Some.first.0) first.2 first.0)
-    c.skip_lines.ensures.place c.skip_lines.ensures.bound
+    let input = c.args.input.now in let s = view c.in_ok-first.first in let body = c.in_ok-first.body.now in let rest = c.in_ok-rest.rest.now in
+    let first = sym c.in_ok-first.ensures in
+    let within = shorter (begin D) s input body first in
+    let long : length input - length body + (length body - length rest) ≡ length input - length rest = omega (arith, within, c.in_ok-rest.ensures.1) in
+    let whole : option_map (λ j. length input - length body + j) (lines_length s.head.transitions body) ≡ Some (length input - length rest) =
+    ap (option_map (λ j. length input - length body + j)) c.in_ok-rest.ensures.0 ∙ ap Some long in
+    (front_made input s body first (length input - length rest) whole, λ m k. same (sym (front-is input s body first m k) ∙ whole), omega arith)

@@ -1,7 +1,10 @@
-use Rattle.std.proofs.Common.{◌≡◌, ◌+◌, drop}
+use Rattle.std.proofs.Common.{◌≡◌, ◌+◌, ◌-◌, ◌≤◌, length}
 use Rattle.std.specs.Option.{option_map}
 use Rattle.aut.specs.Front.{lines_length}
 use Rattle.aut.proofs.front.skip_lines.Given as goal
 
-abbrev pub invariant-loop-i : goal.invariant-loop-i
-invariant-loop-i l = option_map (λ k. l.i + k) (lines_length l.left (drop l.i l.text)) ≡ option_map (λ k. l.from + k) (lines_length l.lines (drop l.from l.text))
+abbrev pub invariant-loop : goal.invariant-loop
+invariant-loop l = record {
+  within : length l.rest ≤ length l.text;
+  left : option_map (λ n. length l.text - length l.rest + n) (lines_length (l.lines - l.counter) l.rest) ≡ lines_length l.lines l.text;
+}
