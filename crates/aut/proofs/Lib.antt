@@ -7,9 +7,11 @@ mod Walks
 mod Plans
 mod Outcomes
 mod Fronts
-mod Puts
+mod Pens
+mod Lengths
 mod Spelled
 mod Moves
+mod Tallies
 mod Forms
 mod RoundTrip
 mod Copies

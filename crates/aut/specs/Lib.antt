@@ -8,3 +8,5 @@ pub mod Agreement
 pub mod Front
 pub mod Writing
 pub mod Back
+pub mod Pens
+pub mod Tallies
