@@ -12,6 +12,7 @@ mod Lengths
 mod Spelled
 mod Moves
 mod Tallies
+mod Walking
 mod Forms
 mod RoundTrip
 mod Copies

@@ -10,3 +10,4 @@ pub mod Writing
 pub mod Back
 pub mod Pens
 pub mod Tallies
+pub mod Walking

@@ -18,4 +18,5 @@ mod surveying;
 mod tally;
 mod tallying;
 mod transition;
+mod walk;
 pub mod writer;
