@@ -11,3 +11,4 @@ pub mod Back
 pub mod Pens
 pub mod Tallies
 pub mod Walking
+pub mod Ahead
