@@ -29,23 +29,9 @@ module _ (M : Lts) (w : ℕ) (before : Labels) (text text' : List ℕ) (cells : 
   abbrev names : List (List ℕ)
   names = listed before
 
-  pub not_written : (e : Refusal) → Err e ≡ write_answer M names (length text) → text' ≡ text → Copied M w before before text text' cells cells (Err e)
-  not_written e h same = record {
-    bytes = same ∙ ap (λ x. write_after M names x text) h;
-    refused = λ x k. (same_refusal x (h ∙ k), refl, refl);
-    read = λ n k. no_length n (h ∙ k);
-    back = λ n k. no_length n (h ∙ k);
-  }
-    where
-      same_refusal : (x : Refusal) → ◌≡◌ {A = Result ℕ Refusal} (Err e) (Err x) → ◌≡◌ {A = Result Header Refusal} (Err e) (Err x)
-      same_refusal x p = let q : e ≡ x = cc in ap Err q
-
-      no_length : {X : Type 0} (n : ℕ) → ◌≡◌ {A = Result ℕ Refusal} (Err e) (Ok n) → X
-      no_length n p = let z : ◌≡◌ {A = ℕ} 0 1 = cc in absurd (omega arith)
-
-  pub written : (n k : ℕ) (after : Labels) (cells' : List Cell) (r : Result Header Refusal) → k ≡ n → Ok n ≡ write_answer M names (length text) → text' ≡ written_over (text_of M names) text →
-      Read (take k text') 65536 w before after cells cells' r → Copied M w before after text text' cells cells' r
-  written n k after cells' r same h bytes read = record {
+  pub written : (n : ℕ) (after : Labels) (cells' : List Cell) (r : Result Header Refusal) → Ok n ≡ write_answer M names (length text) → text' ≡ written_over (text_of M names) text →
+      Read (take n text') 65536 w before after cells cells' r → Copied M w before after text text' cells cells' r
+  written n after cells' r h bytes read = record {
     bytes = bytes ∙ ap (λ x. write_after M names x text) h;
     refused = λ e f. no_refusal e (h ∙ f);
     read = λ _ _. the_read;
@@ -55,10 +41,10 @@ module _ (M : Lts) (w : ℕ) (before : Labels) (text text' : List ℕ) (cells : 
       no_refusal : {X : Type 0} (e : Refusal) → ◌≡◌ {A = Result ℕ Refusal} (Ok n) (Err e) → X
       no_refusal e p = let z : ◌≡◌ {A = ℕ} 0 1 = cc in absurd (omega arith)
 
-      the_text : take k text' ≡ text_of M (listed before)
+      the_text : take n text' ≡ text_of M (listed before)
       the_text =
-          let e : k ≡ length (text_of M (listed before)) = same ∙ (is-length M (listed before) (length text) n (sym h)).0 in
-          ap (take k) bytes ∙ take_at (text_of M (listed before)) (drop (length (text_of M (listed before))) text) k (sym e)
+          let e : n ≡ length (text_of M (listed before)) = (is-length M (listed before) (length text) n (sym h)).0 in
+          ap (take n) bytes ∙ take_at (text_of M (listed before)) (drop (length (text_of M (listed before))) text) n (sym e)
 
       the_read : Read (text_of M (listed before)) 65536 w before after cells cells' r
       the_read = subst (λ x. Read x 65536 w before after cells cells' r) the_text read

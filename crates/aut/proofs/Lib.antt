@@ -5,9 +5,12 @@ mod Stages
 mod Plans
 mod Outcomes
 mod Fronts
-mod Puts
+mod Pens
+mod Lengths
 mod Spelled
 mod Moves
+mod Tallies
+mod Walking
 mod Forms
 mod RoundTrip
 mod Copies

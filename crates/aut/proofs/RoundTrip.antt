@@ -19,7 +19,7 @@ use Rattle.aut.specs.Reading.{leaving, met, all_within, has_room, head_fits, ver
 use Rattle.aut.specs.Writing.{Move, slot_moves, moves_at, moves_of, moves_below, moves, head_text, moves_text, text_of, all_have_names, write_answer}
 use Rattle.aut.specs.Back.{as_line, as_lines, header_for, ReadsBack}
 use Rattle.aut.proofs.Spelled.{all_are_names, known_at, action_at}
-use Rattle.aut.proofs.Puts.{head-long}
+use Rattle.aut.proofs.Lengths.{head-long}
 use Rattle.aut.proofs.Moves.{text_below, text_long}
 use Rattle.aut.proofs.Rooms.{any_none}
 use Rattle.aut.proofs.Forms.{AllFit, no_moves, move, line_one, lines_of-moves}

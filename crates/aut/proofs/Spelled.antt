@@ -1,5 +1,5 @@
 -- The names of a lawful label list: none is longer than 16 bytes, and each is found at its own place.
-use Rattle.std.proofs.Common.{◌≡◌, ℕ, zero, suc, ◌+◌, ◌≤◌, true, false, not, ◌&&◌, leb, List, [], ◌∷◌, length, is_some, Some, sym, refl, ap, ◌∙◌, add-zero, zero-add, arith}
+use Rattle.std.proofs.Common.{◌≡◌, ℕ, zero, suc, ◌+◌, ◌≤◌, true, false, not, ◌&&◌, leb, List, [], ◌∷◌, length, is_some, Some, unwrap_or, sym, refl, ap, ◌∙◌, add-zero, zero-add, arith}
 use Rattle.std.specs.List.{slice_get}
 use Rattle.std.specs.Str.{bytes_eq}
 use Rattle.std.proofs.lemmas.Bool.{and_parts, or_left, or_right, or_parts, both_ways, not-true, leb-true, cond-true, cond-false}
@@ -22,6 +22,9 @@ all_are_names xs h = (and_parts (all_names xs) (distinct xs) (and_parts (tau_fir
 
 pub name-short : (xs : List (List ℕ)) (a : ℕ) → lawful xs ≡ true → length (name_at xs a) ≤ 16
 name-short xs a h = short-names xs a (all_are_names xs h)
+
+pub named_short : (xs : List (List ℕ)) (a : ℕ) (x : List ℕ) → lawful xs ≡ true → Some x ≡ slice_get xs a → length x ≤ 16
+named_short xs a x law e = omega (arith, ap (λ o. length (unwrap_or o [])) e, name-short xs a law)
 
 -- a name of the list is a name, is known, and is found at its own place
 pub is_name-at : (xs : List (List ℕ)) (a : ℕ) → all_names xs ≡ true → is_some (slice_get xs a) ≡ true → is_name (name_at xs a) ≡ true

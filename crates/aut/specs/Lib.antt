@@ -9,3 +9,7 @@ pub mod Agreement
 pub mod Front
 pub mod Writing
 pub mod Back
+pub mod Pens
+pub mod Tallies
+pub mod Walking
+pub mod Ahead

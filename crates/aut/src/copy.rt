@@ -19,5 +19,5 @@ pub fn copy_through_text<M: Model>(
     ensures { Copied (M.meaning model.now) slots labels.old labels.new text.old text.new cells.old cells.new result }
 {
     let length = write(model, labels, text)?;
-    read(&text[0..length], labels, cells, slots)
+    read(&text[..length], labels, cells, slots)
 }

@@ -1,11 +1,9 @@
 use Rattle.std.proofs.Common.{arith}
-use Rattle.aut.proofs.Puts.{line-long}
+use Rattle.base.specs.Labels.{listed}
+use Rattle.aut.proofs.Spelled.{named_short}
 use Rattle.aut.proofs.putting.line_length.Goals as goal
 
-pub returns : goal.returns
-returns c =
-    let n = c.number_length.ensures in let m = c.number_length-2.ensures in
-    record {
-      long = omega (arith, n.long, m.long, line-long c.args.from c.args.name.now c.args.to);
-      few = omega (arith, n.few, m.few, c.requires.1.1);
-    }
+pub returns-clause-few : goal.returns-clause-few
+returns-clause-few c =
+    let l = c.args.labels.now in
+    omega (arith, c.number_length.ensures.few, c.number_length-2.ensures.few, named_short (listed l) c.args.line.action c.in_ok-name.name.now l.kept c.in_ok-name.ensures)

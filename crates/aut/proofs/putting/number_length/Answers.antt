@@ -1,28 +1,8 @@
-use Rattle.std.proofs.Common.{arith}
-use Rattle.aut.proofs.Puts.{length_five, unit_long, unit_short}
+use Rattle.std.proofs.Common.{rules}
+use Rattle.aut.proofs.Lengths.{digits_of_power}
 use Rattle.aut.proofs.putting.number_length.Goals as goal
 
-pub returns-then-number-lt10 : goal.returns-then-number-lt10
-returns-then-number-lt10 c =
-    let n = c.args.number in
-    record { long = omega (arith, length_five n c.requires, unit_short 10000 n (omega arith), unit_short 1000 n (omega arith), unit_short 100 n (omega arith), unit_short 10 n (omega arith)); few = omega arith }
-
-pub returns-then-number-lt100 : goal.returns-then-number-lt100
-returns-then-number-lt100 c =
-    let n = c.args.number in
-    record { long = omega (arith, length_five n c.requires, unit_short 10000 n (omega arith), unit_short 1000 n (omega arith), unit_short 100 n (omega arith), unit_long 10 n (omega arith)); few = omega arith }
-
-pub returns-then-number-lt1000 : goal.returns-then-number-lt1000
-returns-then-number-lt1000 c =
-    let n = c.args.number in
-    record { long = omega (arith, length_five n c.requires, unit_short 10000 n (omega arith), unit_short 1000 n (omega arith), unit_long 100 n (omega arith), unit_long 10 n (omega arith)); few = omega arith }
-
-pub returns-then-number-lt10000 : goal.returns-then-number-lt10000
-returns-then-number-lt10000 c =
-    let n = c.args.number in
-    record { long = omega (arith, length_five n c.requires, unit_short 10000 n (omega arith), unit_long 1000 n (omega arith), unit_long 100 n (omega arith), unit_long 10 n (omega arith)); few = omega arith }
-
-pub returns-else-number-lt10000 : goal.returns-else-number-lt10000
-returns-else-number-lt10000 c =
-    let n = c.args.number in
-    record { long = omega (arith, length_five n c.requires, unit_long 10000 n (omega arith), unit_long 1000 n (omega arith), unit_long 100 n (omega arith), unit_long 10 n (omega arith)); few = omega arith }
+pub returns-clause-long : goal.returns-clause-long
+returns-clause-long c =
+    let power = c.checked_ilog10.ensures in
+    digits_of_power c.args.number c.map_or.result c.checked_ilog10.result c.ranges.number.fits power.none power.power_le power.next_power_gt (search rules)
