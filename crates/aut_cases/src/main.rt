@@ -5,10 +5,9 @@
 use aut::header::Header;
 use aut::reader::read;
 use base::labels::Labels;
-use base::name::Name;
 use model::cell::Cell;
 use std::alloc::{AllocError, Global};
-use std::io;
+use std::{fmt, io};
 
 const MOST_CELLS: usize = 4_096;
 
@@ -35,32 +34,34 @@ fn decode(heap: Global, line: &str) -> Result<Vec<u8>, AllocError> {
     Ok(text)
 }
 
-fn print_name(rt: &HostRuntime, name: &Name) -> io::Result<()> {
-    for byte in name.as_bytes() {
-        rt.print(*byte as char)?;
-    }
-    Ok(())
-}
+// The names of a label list besides tau, as they are printed.
+#[derive(Clone, Copy)]
+struct Names<'a>(&'a Labels);
 
-fn print_labels(rt: &HostRuntime, labels: &Labels) -> io::Result<()> {
-    for name in labels.names().iter().skip(1) {
-        rt.print(" ")?;
-        print_name(rt, name)?;
-    }
-    Ok(())
-}
-
-fn print_cells(rt: &HostRuntime, cells: &[Cell]) -> io::Result<()> {
-    for (i, cell) in cells.iter().enumerate() {
-        if cell.filled {
-            let action = cell.action;
-            let target = cell.target;
-            print!(rt; " {i}:{action}>{target}")?;
-        } else if cell.action == 9 {
-            print!(rt; " {i}:stays")?;
+impl fmt::Display for Names<'_> {
+    fn fmt<W: fmt::Write>(&self, f: &mut fmt::Formatter<W>) -> fmt::Result {
+        for name in self.0.names().iter().skip(1) {
+            write!(f, " {}", str::from_utf8(name.as_bytes()).unwrap_or("?"))?;
         }
+        Ok(())
     }
-    Ok(())
+}
+
+// The filled cells and those that stayed, as they are printed.
+#[derive(Clone, Copy)]
+struct Cells<'a>(&'a [Cell]);
+
+impl fmt::Display for Cells<'_> {
+    fn fmt<W: fmt::Write>(&self, f: &mut fmt::Formatter<W>) -> fmt::Result {
+        for (i, cell) in self.0.iter().enumerate() {
+            match cell.step() {
+                Some((action, target)) => write!(f, " {i}:{action}>{target}")?,
+                None if *cell == UNTOUCHED => write!(f, " {i}:stays")?,
+                None => {}
+            }
+        }
+        Ok(())
+    }
 }
 
 fn print_read(rt: &HostRuntime, header: Header, labels: &Labels, cells: &[Cell]) -> io::Result<()> {
@@ -69,11 +70,8 @@ fn print_read(rt: &HostRuntime, header: Header, labels: &Labels, cells: &[Cell])
         transitions,
         states,
     } = header;
-    print!(rt; "start {start}, {transitions} transitions, {states} states; labels")?;
-    print_labels(rt, labels)?;
-    rt.print("; cells")?;
-    print_cells(rt, cells)?;
-    rt.println("")
+    print!(rt; "start {start}, {transitions} transitions, {states} states; ")?;
+    println!(rt; "labels{}; cells{}", Names(labels), Cells(cells))
 }
 
 fn untouched(cells: &[Cell]) -> bool {
@@ -87,9 +85,8 @@ fn run(rt: &HostRuntime, slots: usize, count: usize, text: &[u8]) -> io::Result<
     match read(text, &mut labels, cells, slots) {
         Ok(header) => print_read(rt, header, &labels, cells),
         Err(why) => {
-            let number = why.number();
             let same = untouched(cells) && labels.count() == 1;
-            println!(rt; "refused {number}, unaltered: {same}")
+            println!(rt; "refused {}, unaltered: {same}", why.number())
         }
     }
 }

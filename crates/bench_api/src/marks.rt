@@ -24,11 +24,8 @@ fn nodes_of(text: &[u8]) -> Result<Nodes, Refusal> {
 
 // Marks each node on the sheet of its number.
 fn mark_all<M: Model, S: Shelf>(model: &M, shelf: &mut S, nodes: &Nodes) -> Result<(), Refusal> {
-    for number in 0..nodes.count() {
-        let Some(node) = nodes.node(number) else {
-            return Ok(());
-        };
-        mark(model, shelf, node, number)?;
+    for (number, node) in nodes.as_slice().iter().enumerate() {
+        mark(model, shelf, *node, number)?;
     }
     Ok(())
 }

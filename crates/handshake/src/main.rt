@@ -13,7 +13,6 @@ use model::joining::join;
 use model::question::Model;
 use model::retry_counter::RetryCounter;
 use model::size::Size;
-use std::io;
 
 // Room for the text of 9 states with 15 slots each.
 const ROOM: usize = 4_096;
@@ -27,13 +26,6 @@ fn actions() -> Result<Labels, Refusal> {
         labels.add(name.as_bytes())?;
     }
     Ok(labels)
-}
-
-fn print_text(rt: &HostRuntime, text: &[u8]) -> io::Result<()> {
-    for byte in text {
-        rt.print(*byte as char)?;
-    }
-    Ok(())
 }
 
 // What became of a model that was written, read back and written again: its text, how many states were read, and whether both texts are the same.
@@ -73,7 +65,7 @@ fn main(rt: HostRuntime) -> anyhow::Result<()> {
     println!(rt; "joined: {} states, {} slots", pair.states(), pair.slots())?;
     let mut text = [0; ROOM];
     let Trip { text, states, same } = round_trip(&pair, &mut labels, &mut text)?;
-    print_text(&rt, text)?;
+    rt.print(str::from_utf8(text)?)?;
     let agree = if same { "agree" } else { "differ" };
     println!(rt; "read back: {states} states, the transitions {agree}")?;
     Ok(())

@@ -47,13 +47,10 @@ struct Marks {
 
 // Marks each node on the sheet of its number, and answers the marks of the last.
 fn mark_all<M: Model, S: Shelf>(model: &M, shelf: &mut S, nodes: &Nodes) -> Result<Marks, Refusal> {
-    let mut last = 0;
-    for number in 0..nodes.count() {
-        if let Some(node) = nodes.node(number) {
-            mark(model, shelf, node, number)?;
-            last = number;
-        }
+    for (number, node) in nodes.as_slice().iter().enumerate() {
+        mark(model, shelf, *node, number)?;
     }
+    let last = nodes.count().saturating_sub(1);
     Ok(Marks {
         on: array::from_fn(|state| shelf.look(last, state)),
         count: count(shelf, last),
