@@ -1,5 +1,8 @@
 use base::name::Name;
 
+// The most transitions that a text may have.
+pub(crate) const MOST_TRANSITIONS: usize = 65_536;
+
 // What line one of a text says: the start state, how many transitions follow, and how many states there are.
 #[derive(Clone, Copy, PartialEq, Eq, Debug)]
 pub struct Header {

@@ -60,6 +60,7 @@ impl Name {
     }
 
     // One byte more, or false where there are 16 already.
+    // kept: a plain yes or no, as of a set's `insert`, since there is no value beside it.
     pub fn push(&mut self, byte: u8) -> bool
         ensures answer { result ≡ nat_lt (length (spelled self.old)) 16 }
         ensures after { spelled self.new ≡ (if nat_lt (length (spelled self.old)) 16 then spelled self.old ++ byte ∷ [] else spelled self.old) }
