@@ -41,11 +41,11 @@ pub fn is_name(text: &[u8]) -> bool
 
 // Whether two texts are equally long and end with the same byte, as equal texts do. Names of one family mostly differ at the end, so
 // this is looked at before the whole.
+// kept: beside `==`, since without it a text of 63 names that differ at the end takes a quarter more time to read.
 fn ends_alike(one: &[u8], other: &[u8]) -> bool
     ensures { one.now ≡ other.now → result ≡ true }
 {
-    let n = one.len();
-    n == other.len() && (n == 0 || one[n - 1] == other[n - 1])
+    one.len() == other.len() && one.last() == other.last()
 }
 
 impl Name {
