@@ -39,7 +39,7 @@ pub fn front_length(input: &[u8]) -> Option<usize>
 }
 
 // Reads the model at the front of an input of at most `longest` bytes, and answers its length too.
-// kept: three limits as plain numbers, since no other call takes all of them, and a struct would be made for each.
+// kept: its limits as plain numbers, since a caller would make a struct of three numbers only to hand it in.
 pub fn read_front(
     input: &[u8],
     longest: usize,

@@ -21,7 +21,6 @@ pub(crate) fn no_counts() -> [u8; 65536]
     [0; 65536]
 }
 
-// kept: three calls say that the shape stays, since a clause speaks of a `&mut self` as a whole.
 impl Survey {
     // Nothing seen yet.
     pub(crate) fn start(labels: Labels, shape: Shape) -> Survey

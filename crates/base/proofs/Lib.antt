@@ -1,4 +1,3 @@
-pub mod AllOf
 mod OneMore
 pub mod Listed
-mod Bitwise
+pub mod Bitwise

@@ -18,9 +18,6 @@ module _ (table : List Name) (count : ℕ) (rows : length table ≡ 64) (few : c
   pub length-listed : length (first_names table count) ≡ count
   length-listed = length-map (take count table) spelled ∙ taken
 
-  pub listed_at : (i : ℕ) (d : Name) → i < count → get_or (first_names table count) i [] ≡ spelled (get_or table i d)
-  listed_at i d h = get_or-map spelled (take count table) i d [] (omega (arith, taken)) ∙ ap spelled (get_or-take count table i d h)
-
   listed-push : (n : Name) → count < 64 → first_names (set table count n) (count + 1) ≡ first_names table count ++ spelled n ∷ []
   listed-push n h = ap (map spelled) (take_more_set table count n (omega arith)) ∙ map_push spelled (take count table) n
 
@@ -33,10 +30,6 @@ pub action_of-spelled : (name : List ℕ) (ns : List Name) → position (λ n. b
 action_of-spelled name ns = position_from-zero (λ n. bytes_eq (spelled n) name) ns ∙ at_spelling name 0 ns
 
 -- what adding does with a name that is new
-pub new-answer : (name : List ℕ) (xs : List (List ℕ)) → true ≡ is_name name → None ≡ action_of name xs →
-    add_answer name xs ≡ cond (leb 64 (length xs)) (Err Crowded) (Ok (length xs))
-new-answer name xs h e = cond-true _ _ _ (sym h) ∙ ap (λ o. answer_at o xs) (sym e)
-
 pub new-names : (name : List ℕ) (xs : List (List ℕ)) → true ≡ is_name name → None ≡ action_of name xs →
     add_names name xs ≡ cond (leb 64 (length xs)) xs (xs ++ name ∷ [])
 new-names name xs h e = cond-true _ _ _ (sym h) ∙ ap (λ o. names_at o name xs) (sym e)

@@ -7,7 +7,7 @@ use crate::name::Name;
 pub const MOST_NAMES: usize = 64;
 
 // A label list: the names of the actions, each at its action's number. Tau is action 0; no name stands twice.
-// kept: a table with its count beside it, since a label list is Copy and no vector of fixed capacity that this toolchain has is.
+// kept: a table with its count: a vector of fixed capacity is not Copy, and its clone can fail, which no call here can.
 #[derive(Clone, Copy)]
 pub struct Labels {
     pub(crate) table: [Name; MOST_NAMES],

@@ -9,7 +9,7 @@ use crate::name::{LONGEST_NAME, Name};
 pub fn is_letter(byte: u8) -> bool
     ensures { result ≡ letter byte }
 {
-    matches!(byte, b'a'..=b'z')
+    byte.is_ascii_lowercase()
 }
 
 // Whether a byte may stand in a name.

@@ -75,9 +75,6 @@ module _ (names : List (List ℕ)) (ts : List Tok) (t : Tree) (xs : List Shape) 
             },
           )
 
-pub nameless : (names : List (List ℕ)) (n : ℕ) (ts : List Tok) (t : Tree) → tree_of ts ≡ Some t → false ≡ all_listed names ts → verdict_on names n ts (tree_of ts) ≡ Err Nameless
-nameless names n ts t e k = ap (verdict_on names n ts) e ∙ cond-false _ _ _ (sym k)
-
 -- the tokens that are a formula whose names the list has, by the nodes that were written
 module _ (names : List (List ℕ)) (ts : List Tok) (n : Nodes) (known : true ≡ all_listed names ts) where
   module _ (after : DraftState) (root : ℕ) (whole : Whole names ts (Some (shapes n)) after (Some root)) where

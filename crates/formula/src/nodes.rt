@@ -5,7 +5,7 @@ use crate::node::Node;
 // The nodes of the formulas so far, at most 48; each stands after those below it.
 #[derive(Clone, Copy)]
 pub struct Nodes {
-    // kept: an `ArrayVec` is not `Copy`, as this type is to its callers, and a `Model` that is `Copy` would show the unused rows too.
+    // kept: a table with its count: a vector of fixed capacity is not Copy, and its clone can fail, which no call here can.
     pub(crate) table: [Node; 48],
     pub(crate) count: usize,
     ghost rows: { length table ≡ 48 },
