@@ -24,7 +24,7 @@ const MOST_STATES: usize = 512;
 
 const SLOTS: usize = 8;
 
-const CELLS: usize = 4_096;
+const CELLS: usize = MOST_STATES * SLOTS;
 
 // Standard input, as far as one byte past what the program takes.
 fn read_input(rt: &HostRuntime) -> io::Result<Vec<u8>> {

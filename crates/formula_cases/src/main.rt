@@ -11,12 +11,9 @@ use formula::nodes::Nodes;
 use std::alloc::{AllocError, Global};
 use std::{fmt, io};
 
+// What a digit to the base sixteen counts; any other byte counts nothing.
 fn hex(digit: u8) -> u8 {
-    match digit {
-        b'0'..=b'9' => digit - b'0',
-        b'a'..=b'f' => digit - b'a' + 10,
-        _ => 0,
-    }
+    char::from(digit).to_digit(16).unwrap_or(0) as u8
 }
 
 // The bytes that a line stands for.

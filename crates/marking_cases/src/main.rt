@@ -3,6 +3,7 @@
 #![tactic(auto)]
 
 use aut::copy::copy_through_text;
+use aut::header::Header;
 use aut::reader::read;
 use base::action_set::ActionSet;
 use base::labels::Labels;
@@ -109,61 +110,75 @@ fn make_models() -> Result<Models, Refusal> {
     })
 }
 
-// Cells that were read from text.
-#[derive(Drop)]
-struct Texts {
-    upload: [Cell; 8],
-    line: [Cell; 4],
-    stuck: [Cell; 2],
-    pair: [Cell; CELLS],
-}
-
-fn read_texts(models: &mut Models) -> Result<Texts, Refusal> {
-    let mut texts = Texts {
-        upload: [Cell::EMPTY; 8],
-        line: [Cell::EMPTY; 4],
-        stuck: [Cell::EMPTY; 2],
-        pair: [Cell::EMPTY; CELLS],
-    };
-    read(UPLOAD, &mut models.labels, &mut texts.upload, 2)?;
-    read(LINE, &mut models.labels, &mut texts.line, 2)?;
-    read(STUCK, &mut models.labels, &mut texts.stuck, 2)?;
-    let mut room = [0; ROOM];
-    copy_through_text(
-        &models.pair,
-        &mut models.labels,
-        &mut room,
-        &mut texts.pair,
-        15,
-    )?;
-    Ok(texts)
-}
-
-fn show_grid(
-    rt: &HostRuntime,
-    name: &str,
-    cells: &[Cell],
+// A model that was read from text: its cells, and what line one says of it.
+#[derive(Clone, Copy)]
+struct Held {
+    cells: [Cell; CELLS],
     size: Size,
-    nodes: &Nodes,
-) -> io::Result<()> {
-    match Grid::over(cells, size, 0) {
-        Ok(grid) => show(rt, name, &grid, nodes),
-        Err(why) => println!(rt; "  {name}: refused {}", why.number()),
+    start: usize,
+}
+
+impl Held {
+    fn by(header: Header, cells: [Cell; CELLS], slots: usize) -> Held {
+        let size = Size {
+            states: header.states,
+            slots,
+        };
+        Held {
+            cells,
+            size,
+            start: header.start,
+        }
+    }
+
+    fn read(text: &[u8], labels: &mut Labels) -> Result<Held, Refusal> {
+        let mut cells = [Cell::EMPTY; CELLS];
+        let header = read(text, labels, &mut cells, 2)?;
+        Ok(Held::by(header, cells, 2))
+    }
+
+    // By way of the text of a model.
+    fn copy<M: Model>(model: &M, labels: &mut Labels) -> Result<Held, Refusal> {
+        let mut room = [0; ROOM];
+        let mut cells = [Cell::EMPTY; CELLS];
+        let slots = model.slots();
+        let header = copy_through_text(model, labels, &mut room, &mut cells, slots)?;
+        Ok(Held::by(header, cells, slots))
+    }
+
+    fn show(&self, rt: &HostRuntime, name: &str, nodes: &Nodes) -> io::Result<()> {
+        match Grid::over(&self.cells, self.size, self.start) {
+            Ok(grid) => show(rt, name, &grid, nodes),
+            Err(why) => println!(rt; "  {name}: refused {}", why.number()),
+        }
     }
 }
 
-// The size of a grid.
-fn size(states: usize, slots: usize) -> Size {
-    Size { states, slots }
+// The grids of the table.
+#[derive(Drop)]
+struct Texts {
+    upload: Held,
+    line: Held,
+    stuck: Held,
+    pair: Held,
+}
+
+fn read_texts(models: &mut Models) -> Result<Texts, Refusal> {
+    Ok(Texts {
+        upload: Held::read(UPLOAD, &mut models.labels)?,
+        line: Held::read(LINE, &mut models.labels)?,
+        stuck: Held::read(STUCK, &mut models.labels)?,
+        pair: Held::copy(&models.pair, &mut models.labels)?,
+    })
 }
 
 fn run(rt: &HostRuntime, models: &Models, nodes: &Nodes, texts: &Texts) -> io::Result<()> {
-    show_grid(rt, "upload", &texts.upload, size(4, 2), nodes)?;
-    show_grid(rt, "line", &texts.line, size(2, 2), nodes)?;
-    show_grid(rt, "stuck", &texts.stuck, size(1, 2), nodes)?;
+    texts.upload.show(rt, "upload", nodes)?;
+    texts.line.show(rt, "line", nodes)?;
+    texts.stuck.show(rt, "stuck", nodes)?;
     show(rt, "counter", &models.counter, nodes)?;
     show(rt, "pair", &models.pair, nodes)?;
-    show_grid(rt, "pair as a grid", &texts.pair, size(9, 15), nodes)
+    texts.pair.show(rt, "pair as a grid", nodes)
 }
 
 fn main(rt: HostRuntime) -> anyhow::Result<()> {
