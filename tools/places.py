@@ -44,7 +44,7 @@ def matches(pattern):
     return found
 
 
-HEAD = re.compile(r"fn ([a-z_]+)(<[^(]*>)?\(([^)]*)\)([^{;]*?)(?=\n|$)")
+HEAD = re.compile(r"fn ([a-z_]+)(<[^(]*>)?\(([^)]*)\)([^{;\n]*)")
 
 
 def functions():
@@ -103,7 +103,7 @@ POINTS = [
     ("1", "a refusal beside a value", lambda: matches(r", Option<Refusal>\)")),
     ("1", "a flag in a struct or among parameters", lambda: matches(r"^ +(pub(\(crate\))? )?[a-z_]+: bool,$")),
     ("1", "an enum with a case for nothing, the end or an error", lambda: matches(r"^ +(End|Broken|Bad|Nothing),$")),
-    ("1", "a number for a kind or a refusal", lambda: matches(r"refusal: u8|unwrap_or\(0\)|fn answer\(.*-> u8|let mut left = |left = [0-9]")),
+    ("1", "a number for a kind or a refusal", lambda: matches(r"refusal: u8|unwrap_or\(0\)|fn answer\(.*-> u8|let mut left = 0|left = [0-9]")),
     ("1", "a call that changes something and answers a flag", flags_answered),
     ("2", "functions of one name in two places", same_names),
     ("3", "a loop that may count an index", lambda: matches(r"\bfor [a-z_]+ in .*\.\.|\bwhile |^ *loop ")),
@@ -111,7 +111,7 @@ POINTS = [
     ("5", "five parameters or more", long_lists),
     ("5", "a fact that stands in three contracts or more", repeated_facts),
     ("5", "the two fields of a list of names or nodes, named apart", lambda: matches(r"\b([a-z]+(\.[a-z]+)*)\.table \1\.count\b")),
-    ("6", "a field or variable that is an array", lambda: matches(r"\[[A-Za-z0-9_]+; [0-9A-Z_]+\][,;]")),
+    ("6", "a field or variable that is an array", lambda: matches(r"\[[A-Za-z0-9_:]+; [0-9A-Z_]+\]")),
     ("7", "a switch on which step to run", lambda: matches(r"\bmatch (extent|direction|level)\b|\bif one_is_enough")),
     ("8", "answers in proofs/", lambda: [
         f"{name[7:]}: {answers}" for name in names(r"/proofs/.*Answers\.antt$") for answers in [len(re.findall(r"^pub ", text_of(name), re.M))] if answers
