@@ -1,3 +1,4 @@
 mod OneMore
 pub mod Listed
 pub mod Bitwise
+pub mod Adding

@@ -1,14 +1,13 @@
 -- The names that a table lists: how many, which, and one more.
-use Rattle.std.proofs.Common.{◌≡◌, ℕ, ◌+◌, ◌<◌, ◌≤◌, Bool, true, false, cond, not, ◌&&◌, ◌||◌, leb, List, [], ◌∷◌, ◌++◌, map, length, get_or, take, set, Some, None, Ok, Err, sym, refl, ap, ◌∙◌, ⊎_elim, arith}
+use Rattle.std.proofs.Common.{◌≡◌, ℕ, ◌+◌, ◌<◌, ◌≤◌, Bool, true, false, cond, not, ◌&&◌, ◌||◌, leb, List, [], ◌∷◌, ◌++◌, map, length, take, set, Some, None, sym, refl, ap, ◌∙◌, ⊎_elim, arith}
 use Rattle.std.specs.Str.{bytes_eq}
-use Rattle.std.proofs.lemmas.List.{length-map, length-take-le, get_or-map, get_or-take, take_more_set, map_push, take_all}
+use Rattle.std.proofs.lemmas.List.{length-map, length-take-le, take_more_set, map_push, take_all}
 use Rattle.std.proofs.lemmas.Bool.{both_ways, and_parts, and_from, or_from, or_parts, not-true, not_from_false, cases_Bool, leb-true, cond-true}
 use Rattle.std.proofs.lemmas.Slice.Eq.{bytes_eq-Decides}
 use Rattle.std.specs.List.{position, position_from}
 use Rattle.std.proofs.lemmas.Iterator.Adapters.{position_from-zero}
 use Rattle.base.specs.Names.{is_name, begins_name, name_bytes}
-use Rattle.base.specs.declared.refusal.Refusal.TheVariants.{Crowded}
-use Rattle.base.specs.Listing.{spelled, place, known, all_names, distinct, tau_first, lawful, action_of, answer_at, names_at, add_answer, add_names, first_names}
+use Rattle.base.specs.Listing.{spelled, place, known, all_names, distinct, tau_first, lawful, action_of, names_at, add_names, first_names}
 use Rattle.base.specs.declared.name.Name.{Name}
 
 module _ (table : List Name) (count : ℕ) (rows : length table ≡ 64) (few : count ≤ 64) where

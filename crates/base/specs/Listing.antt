@@ -2,6 +2,7 @@
 use Rattle.std.specs.Prelude.{ℕ, Bool, true, false, cond, not, ◌&&◌, List, [], ◌∷◌, ◌++◌, map, length, take, Some, None, Ok, Err, codes, Option, Result, nat_le}
 use Rattle.std.specs.List.{list_all, list_any, position_from}
 use Rattle.std.specs.Str.{bytes_eq}
+use Rattle.std.specs.Borrow.{Bor}
 use Rattle.base.specs.Names.{is_name}
 use Rattle.base.specs.declared.name.Name.{Name}
 use Rattle.base.specs.declared.refusal.Refusal.{Refusal}
@@ -57,3 +58,16 @@ add_answer name names = cond (is_name name) (answer_at (action_of name names) na
 -- The names after it: a new one stands at the end, if there is room.
 abbrev pub add_names : List ℕ → List (List ℕ) → List (List ℕ)
 add_names name names = cond (is_name name) (names_at (action_of name names) name names) names
+
+-- Adding names one after another: the names after all of them, or why one is refused.
+abbrev pub go_on : Result ℕ Refusal → Result (List (List ℕ)) Refusal → Result (List (List ℕ)) Refusal
+go_on (Ok a) rest = rest
+go_on (Err e) rest = Err e
+
+abbrev pub add_all : List (List ℕ) → List (List ℕ) → Result (List (List ℕ)) Refusal
+add_all [] names = Ok names
+add_all (x ∷ xs) names = go_on (add_answer x names) (add_all xs (add_names x names))
+
+-- the list that adding some names to a fresh one makes
+abbrev pub all_added : List (Bor (List ℕ)) → Result (List (List ℕ)) Refusal
+all_added xs = add_all (map (λ x. x.now) xs) (codes "tau" ∷ [])

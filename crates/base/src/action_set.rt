@@ -1,7 +1,10 @@
 ghost use Rattle.std.specs.Prelude.{◌≡◌, ℕ, Bool, true, false, not, ◌&&◌, ◌||◌, ◌==◌, nat_lt};
 ghost use Rattle.base.specs.Sets.{holds};
 
-// A set of actions, each from 0 to 63.
+// How many actions there are: they are numbered from 0 to 63.
+pub const ACTIONS: u8 = 64;
+
+// A set of actions.
 #[derive(Clone, Copy)]
 pub struct ActionSet {
     bits: u64,
@@ -26,7 +29,7 @@ impl ActionSet {
     pub fn only(action: u8) -> ActionSet
         ensures { (a : ℕ) → holds result a ≡ (nat_lt a 64 && a == action) }
     {
-        if action < 64 {
+        if action < ACTIONS {
             ActionSet { bits: 1 << action }
         } else {
             ActionSet::none()
@@ -44,7 +47,7 @@ impl ActionSet {
     pub fn has(self, action: u8) -> bool
         ensures { result ≡ holds self action }
     {
-        action < 64 && (self.bits >> action) & 1 == 1
+        action < ACTIONS && (self.bits >> action) & 1 == 1
     }
 
     // The actions that either set holds.

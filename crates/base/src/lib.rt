@@ -2,7 +2,6 @@
 #![tactic(auto)]
 
 pub mod action_set;
-pub mod label_list;
 pub mod labels;
 pub mod name;
 pub mod refusal;

@@ -31,6 +31,7 @@ pub enum Refusal {
 
 impl Refusal {
     // The number by which it is told.
+    // kept: a method beside `From`, since a line that is printed says no type to convert to.
     pub fn number(self) -> u8
         ensures { result ≡ number_of self }
     {
