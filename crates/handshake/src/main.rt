@@ -21,11 +21,7 @@ const CELLS: usize = 135;
 
 // The actions of a thermostat and a server that each count what they sent, and are answered together.
 fn actions() -> Result<Labels, Refusal> {
-    let mut labels = Labels::fresh();
-    for name in ["send", "ack", "quit", "poll", "drop"] {
-        labels.add(name.as_bytes())?;
-    }
-    Ok(labels)
+    Labels::of(&["send", "ack", "quit", "poll", "drop"])
 }
 
 // What became of a model that was written, read back and written again: its text, how many states were read, and whether both texts are the same.
