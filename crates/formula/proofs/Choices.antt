@@ -1,5 +1,6 @@
 -- The functions that read action formulas, step by step.
-use Rattle.std.proofs.Common.{◌≡◌, ℕ, ◌+◌, ◌*◌, not, ◌&&◌, ◌||◌, ltb, ◌⊎◌, List, ◌∷◌, length, Some, None, Option, ap, ◌∙◌, inl, inr, arith}
+use Rattle.std.proofs.Common.{◌≡◌, ℕ, ◌+◌, ◌*◌, not, ◌&&◌, ◌||◌, ltb, ◌⊎◌, List, ◌∷◌, length, Some, None, Option, sym, ap, ◌∙◌, subst, inl, inr, arith}
+use Rattle.base.specs.Labels.{listed}
 use Rattle.base.specs.Sets.{holds}
 use Rattle.base.specs.declared.action_set.ActionSet.{ActionSet}
 use Rattle.formula.specs.declared.built.Found.{Found}
@@ -14,7 +15,7 @@ use Rattle.formula.specs.declared.token.Token.{Token}
 use Rattle.formula.specs.declared.token.Token.TheVariants as token
 use Rattle.formula.specs.Choosing.{set_of, IsSet, ChoosesBy, Chooses}
 use Rattle.formula.specs.Finding.{Settles}
-use Rattle.formula.specs.Places.{ahead, moved}
+use Rattle.formula.specs.Places.{ahead, moved, Closed}
 use Rattle.formula.specs.Reading.{past_sign, if_there, ended_by, in_braces, Got, Reader, then, OrLevel, Tight, Reads, action_at, action_rules}
 use Rattle.formula.specs.Tokens.{Tok, mark, tok}
 use Rattle.formula.specs.Trees.{Acts, complement, intersection, union}
@@ -25,13 +26,18 @@ pub braces_none : (ts : List Tok) → Reads action_rules OrLevel ts None → in_
 unfolding in_braces
 braces_none ts a = ap (λ g. then g (ended_by BraceClose)) (a (3 * length ts + 4) (omega arith))
 
-pub braces_open : (ts us : List Tok) (c : Acts) → Reads action_rules OrLevel ts (Some (c, us)) → past_sign BraceClose us ≡ None → in_braces ts ≡ None
+braces_open : (ts us : List Tok) (c : Acts) → Reads action_rules OrLevel ts (Some (c, us)) → past_sign BraceClose us ≡ None → in_braces ts ≡ None
 unfolding in_braces
 braces_open ts us c a e = ap (λ g. then g (ended_by BraceClose)) (a (3 * length ts + 4) (omega arith)) ∙ ap (λ p. if_there {X = Got Acts} p (λ rest. Some (c, rest)) None) e
 
-pub braces_some : (ts us rest : List Tok) (c : Acts) → Reads action_rules OrLevel ts (Some (c, us)) → past_sign BraceClose us ≡ Some rest → in_braces ts ≡ Some (c, rest)
+braces_some : (ts us rest : List Tok) (c : Acts) → Reads action_rules OrLevel ts (Some (c, us)) → past_sign BraceClose us ≡ Some rest → in_braces ts ≡ Some (c, rest)
 unfolding in_braces
 braces_some ts us rest c a e = ap (λ g. then g (ended_by BraceClose)) (a (3 * length ts + 4) (omega arith)) ∙ ap (λ p. if_there {X = Got Acts} p (λ vs. Some (c, vs)) None) e
+
+pub braces_closed : (c : Cursor) (y : Found ActionSet) → Chooses c OrLevel (Some y) → (r : Option (Found ActionSet)) → Closed c BraceClose y r → ChoosesBy c (λ r ts. in_braces ts) r
+braces_closed c y d None e = λ n h. braces_open _ _ d.0 d.1 e
+braces_closed c y d (Some z) e =
+    (d.0, (λ n h. braces_some _ _ _ d.0 d.1 e.0), subst (IsSet (listed c.labels.now) d.0) (sym e.3) d.2, omega (arith, d.3, e.1))
 
 -- an operator is no action formula
 pub no_action : (r : Reader Acts) (m : Mark) (ts : List Tok) → ((x : Operator) × m ≡ Short x) ⊎ (((x : Quantifier) × m ≡ Path x) ⊎ ((x : Link) × m ≡ Between x)) → action_at r m ts ≡ None

@@ -1,9 +1,12 @@
 -- What stands at a place of the tokens.
 use Rattle.std.specs.Prelude.{◌≡◌, ℕ, ◌+◌, ◌<◌, List, [], ◌∷◌, map, length, drop, Some, None, Option}
+use Rattle.formula.specs.declared.built.Found.{Found}
 use Rattle.formula.specs.declared.cursor.Cursor.{Cursor}
 use Rattle.formula.specs.declared.token.Token.{Token}
 use Rattle.formula.specs.declared.mark.Link.{Link}
 use Rattle.formula.specs.declared.mark.Mark.{Mark}
+use Rattle.formula.specs.declared.mark.Sign.{Sign}
+use Rattle.formula.specs.Reading.{past_sign}
 use Rattle.formula.specs.Tokens.{Tok, mark, name, tok}
 
 abbrev pub unread : List Token → ℕ → List Tok
@@ -21,6 +24,11 @@ moved c at = record { tokens = c.tokens; labels = c.labels; at = at }
 abbrev pub Past : Cursor → Option (List Tok) → Option ℕ → Type 0
 Past c o None = o ≡ None
 Past c o (Some end) = (o ≡ Some (ahead (moved c end))) × (end ≡ c.at + 1) × (c.at < length c.tokens.now)
+
+-- what was read, as far as a sign that follows it
+abbrev pub Closed : {V : Type 0} → Cursor → Sign → Found V → Option (Found V) → Type 0
+Closed c s y None = past_sign s (ahead (moved c y.end)) ≡ None
+Closed c s y (Some z) = (past_sign s (ahead (moved c y.end)) ≡ Some (ahead (moved c z.end))) × (z.end ≡ y.end + 1) × (y.end < length c.tokens.now) × (z.value ≡ y.value)
 
 -- the sign or word that stands first; none at a name
 abbrev pub first : List Tok → Option Mark

@@ -107,8 +107,7 @@ impl Cursor<'_> {
             return None;
         }
         let inner = self.actions(Level::Or)?;
-        let end = self.moved_to(inner.end).after(Sign::Close)?;
-        Some(Found { end, ..inner })
+        self.closed(inner, Sign::Close)
     }
 
     // The action formula in braces, after the first of them.
@@ -116,7 +115,6 @@ impl Cursor<'_> {
         ensures { ChoosesBy self.now (λ r ts. in_braces ts) result }
     {
         let inner = self.actions(Level::Or)?;
-        let end = self.moved_to(inner.end).after(Sign::BraceClose)?;
-        Some(Found { end, ..inner })
+        self.closed(inner, Sign::BraceClose)
     }
 }

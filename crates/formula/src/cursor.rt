@@ -1,7 +1,7 @@
 ghost use Rattle.std.specs.Prelude.{◌≡◌, ℕ, ◌+◌, ◌<◌, ◌≤◌, List, [], ◌∷◌, length, IfSome, MatchOption};
 ghost use Rattle.formula.specs.Chaining.{MayRead, MayJoin, OnlyOnward, Chain};
 ghost use Rattle.formula.specs.Grammar.{begins};
-ghost use Rattle.formula.specs.Places.{ahead, moved, first, Past, Marked, Linked};
+ghost use Rattle.formula.specs.Places.{ahead, moved, first, Past, Closed, Marked, Linked};
 ghost use Rattle.formula.specs.Reading.{past_sign, link};
 ghost use Rattle.formula.specs.Tokens.{tok};
 
@@ -51,6 +51,14 @@ impl<'a> Cursor<'a> {
             Mark::Sign(found) if found == sign => Some(self.at + 1),
             _ => None,
         }
+    }
+
+    // What was read, as far as a sign that closes it.
+    pub(crate) fn closed<T: Copy>(&self, inner: Found<T>, sign: Sign) -> Option<Found<T>>
+        ensures { Closed self.now sign inner result }
+    {
+        let end = self.moved_to(inner.end).after(sign)?;
+        Some(Found { end, ..inner })
     }
 
     // The word U or W that stands here.

@@ -89,8 +89,7 @@ impl Cursor<'_> {
             return None;
         }
         let inner = self.formula(Level::Or, draft)?;
-        let end = self.moved_to(inner.end).after(Sign::Close)?;
-        Some(Found { end, ..inner })
+        self.closed(inner, Sign::Close)
     }
 
     // What follows a two-letter operator.
@@ -118,7 +117,7 @@ impl Cursor<'_> {
         let first = self.moved_to(inside).part(Level::Or, draft)?;
         let link = self.moved_to(first.end).link()?;
         let second = self.moved_to(first.end + 1).part(Level::Or, draft)?;
-        let end = self.moved_to(second.end).after(Sign::BracketClose)?;
+        let second = self.closed(second, Sign::BracketClose)?;
         let node = Node::Path {
             quantifier,
             link,
@@ -127,7 +126,7 @@ impl Cursor<'_> {
         };
         Some(Found {
             value: draft.put(node),
-            end,
+            end: second.end,
         })
     }
 

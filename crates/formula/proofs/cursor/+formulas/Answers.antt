@@ -63,13 +63,13 @@ Cursor::two_parts-returns t c =
     let d = subst (λ x. BuildsPart x c.args.draft.now c.part.new.draft (λ r. part (r OrLevel)) (Some first)) c.moved_to.ensures c.in_ok-first.ensures in
     let e = subst (λ x. Linked x (link (ahead x)) (Some l)) c.moved_to-2.ensures c.in_ok-link.ensures in
     let f = subst (λ x. BuildsPart x c.part.new.draft c.part-2.new.draft (λ r. part (r OrLevel)) (Some second)) c.moved_to-3.ensures c.in_ok-second.ensures in
-    let g = past_there s _ second.end BracketClose (Some c.in_ok-end.end) c.moved_to-4.ensures c.in_ok-end.ensures in
+    let last = c.in_ok-second-2.second in let g = c.in_ok-second-2.ensures in
     let p = d.0 in let u = f.0 in (
       path q l p.0 p.1 u.0 u.1,
-      buildings.bracketed s q l p u c.in_ok-inside.inside first.end second.end c.in_ok-end.end a.0 a.1 d.1 d.3 e.0 f.1 g.0,
+      buildings.bracketed s q l p u c.in_ok-inside.inside first.end second.end last.end a.0 a.1 d.1 d.3 e.0 f.1 g.0,
       (
-        layings.laid-path (listed s.labels.now) q l p.0 u.0 p.1 u.1 first.value.actions second.value.actions (drafted c.args.draft.now) (drafted c.part.new.draft)
-            (drafted c.part-2.new.draft) (drafted c.put.new.self) first.value.child second.value.child d.2.1 f.2.1 d.2.0.0 d.2.0.1 f.2.0.0 f.2.0.1 c.put.ensures.after,
+        layings.laid-path (listed s.labels.now) q l p.0 u.0 p.1 u.1 first.value.actions last.value.actions (drafted c.args.draft.now) (drafted c.part.new.draft)
+            (drafted c.part-2.new.draft) (drafted c.put.new.self) first.value.child last.value.child d.2.1 (rw g.3 f.2.1) d.2.0.0 d.2.0.1 f.2.0.0 (rw g.3 f.2.0.1) c.put.ensures.after,
         c.put.ensures.number,
       ),
       omega (arith, a.1, d.3, f.3, g.1),
