@@ -3,6 +3,8 @@ use Rattle.std.proofs.Common.{◌≡◌, ℕ, ◌+◌, ◌≤◌, false, cond, �
 use Rattle.base.specs.Labels.{listed}
 use Rattle.base.specs.declared.action_set.ActionSet.{ActionSet}
 use Rattle.formula.specs.declared.built.Found.{Found}
+use Rattle.formula.specs.declared.built.Joint.{Joint}
+use Rattle.formula.specs.declared.built.Joint.TheVariants as joint
 use Rattle.formula.specs.declared.built.Level.{Level}
 use Rattle.formula.specs.declared.built.Level.TheVariants as level
 use Rattle.formula.specs.declared.node.Part.{Part}
@@ -15,10 +17,12 @@ use Rattle.formula.specs.declared.mark.Sign.TheVariants.{BracketOpen, BracketClo
 use Rattle.formula.specs.declared.nodes.Draft.{Draft}
 use Rattle.formula.specs.Tokens.{Tok, mark, name}
 use Rattle.formula.specs.Grammar.{begins}
-use Rattle.formula.specs.Building.{Laid, BuildsBy, Builds, LaidPart, BuildsPart, stage}
+use Rattle.formula.specs.Building.{Laid, BuildsBy, Builds, LaidPart, BuildsPart}
 use Rattle.formula.specs.Choosing.{IsSet, ChoosesBy}
 use Rattle.formula.specs.Finding.{Settles}
-use Rattle.formula.specs.Laying.{Shape, drafted, push, top, lay}
+use Rattle.formula.specs.Laying.{Shape, and_node, or_node, drafted, push, top, lay}
+use Rattle.formula.specs.Levels.{stage, node_of}
+use Rattle.formula.specs.Levels as levels
 use Rattle.formula.specs.Places.{ahead, moved, first}
 use Rattle.formula.specs.Reading.{past_sign, if_there, Got, Reader, then, OrLevel, Tight, read, rank, ended_by, in_braces, with_formula, after_braces, part, link, second_part, two_parts, formula_at, formula, formula_rules}
 use Rattle.formula.specs.Trees.{Acts, all, Tree, TRUE, path}
@@ -42,18 +46,23 @@ by_mark c k before after m m' e q p r f =
     findings.tight-from (λ names. Laid names before after) formula_rules c k (mark m') p (e ∙ ap (λ x. mark x ∷ ahead (moved c (c.at + 1))) q) r f
 
 -- a node over two that were laid, in a draft that is the same as theirs
-pub joined : (names : List (List ℕ)) (f : ℕ → ℕ → Shape) (x y : Tree) (s t u u' d d' : Draft) (v w z : ℕ) → Laid names s t x v → Laid names t u y w → d ≡ u → d' ≡ u' →
+laid-two : (names : List (List ℕ)) (f : ℕ → ℕ → Shape) (x y : Tree) (s t u u' d d' : Draft) (v w z : ℕ) → Laid names s t x v → Laid names t u y w → d ≡ u → d' ≡ u' →
     drafted d' ≡ push (drafted d) (f v w) → z ≡ top (drafted d') →
     (drafted u' ≡ push (lay names y (lay names x (drafted s))) (f (top (lay names x (drafted s))) (top (lay names y (lay names x (drafted s)))))) × (z ≡ top (drafted u'))
-joined names f x y s t u u' d d' v w z h k p q a n = (
+laid-two names f x y s t u u' d d' v w z h k p q a n = (
   layings.two_below names f x y (drafted s) (drafted t) (drafted u) (drafted u') v w h.0 h.1 k.0 k.1
       (ap drafted (sym q) ∙ a ∙ ap (λ e. push (drafted e) (f v w)) p),
   n ∙ ap (λ e. top (drafted e)) q,
 )
 
+pub joined : (names : List (List ℕ)) (j : Joint) (x y : Tree) (s t u u' d d' : Draft) (v w z : ℕ) → Laid names s t x v → Laid names t u y w → d ≡ u → d' ≡ u' →
+    drafted d' ≡ push (drafted d) (node_of j v w) → z ≡ top (drafted d') → Laid names s u' (levels.joined formula_rules j x y) z
+joined names joint.Or = laid-two names or_node
+joined names joint.And = laid-two names and_node
+
 pub rank_small : (l : Level) → rank (stage {X = Tree} l) ≤ 3
-rank_small level.Or = omega arith
-rank_small level.And = omega arith
+rank_small (level.Chain joint.Or) = omega arith
+rank_small (level.Chain joint.And) = omega arith
 rank_small level.Tight = omega arith
 
 -- braces with nothing after them

@@ -4,6 +4,8 @@ use Rattle.base.specs.Labels.{listed}
 use Rattle.base.specs.Sets.{holds}
 use Rattle.base.specs.declared.action_set.ActionSet.{ActionSet}
 use Rattle.formula.specs.declared.built.Found.{Found}
+use Rattle.formula.specs.declared.built.Joint.{Joint}
+use Rattle.formula.specs.declared.built.Joint.TheVariants as joint
 use Rattle.formula.specs.declared.cursor.Cursor.{Cursor}
 use Rattle.formula.specs.declared.mark.Link.{Link}
 use Rattle.formula.specs.declared.mark.Mark.{Mark}
@@ -15,10 +17,12 @@ use Rattle.formula.specs.declared.token.Token.{Token}
 use Rattle.formula.specs.declared.token.Token.TheVariants as token
 use Rattle.formula.specs.Choosing.{set_of, IsSet, ChoosesBy, Chooses}
 use Rattle.formula.specs.Finding.{Settles}
+use Rattle.formula.specs.Levels.{in_both}
+use Rattle.formula.specs.Levels as levels
 use Rattle.formula.specs.Places.{ahead, moved, Closed}
 use Rattle.formula.specs.Reading.{past_sign, if_there, ended_by, in_braces, Got, Reader, then, OrLevel, Tight, Reads, action_at, action_rules}
 use Rattle.formula.specs.Tokens.{Tok, mark, tok}
-use Rattle.formula.specs.Trees.{Acts, complement, intersection, union}
+use Rattle.formula.specs.Trees.{Acts, complement}
 use Rattle.formula.proofs.Findings as findings
 
 -- in braces
@@ -46,11 +50,10 @@ no_action r m ts (inr (inl p)) = ap (λ k. action_at r k ts) p.1
 no_action r m ts (inr (inr p)) = ap (λ k. action_at r k ts) p.1
 
 module _ (names : List (List ℕ)) where
-  pub united : (c d : Acts) (l r u : ActionSet) → IsSet names c l → IsSet names d r → ((a : ℕ) → holds u a ≡ (holds l a || holds r a)) → IsSet names (union c d) u
-  united c d l r u p q h a = h a ∙ ap (λ b. b || holds r a) (p a) ∙ ap (λ b. set_of names c a || b) (q a)
-
-  pub common : (c d : Acts) (l r u : ActionSet) → IsSet names c l → IsSet names d r → ((a : ℕ) → holds u a ≡ (holds l a && holds r a)) → IsSet names (intersection c d) u
-  common c d l r u p q h a = h a ∙ ap (λ b. b && holds r a) (p a) ∙ ap (λ b. set_of names c a && b) (q a)
+  pub joined : (j : Joint) (c d : Acts) (l r u : ActionSet) → IsSet names c l → IsSet names d r → ((a : ℕ) → holds u a ≡ in_both j (holds l a) (holds r a)) →
+      IsSet names (levels.joined action_rules j c d) u
+  joined joint.Or c d l r u p q h a = h a ∙ ap (λ b. b || holds r a) (p a) ∙ ap (λ b. set_of names c a || b) (q a)
+  joined joint.And c d l r u p q h a = h a ∙ ap (λ b. b && holds r a) (p a) ∙ ap (λ b. set_of names c a && b) (q a)
 
   pub other : (c : Acts) (l u : ActionSet) → IsSet names c l → ((a : ℕ) → holds u a ≡ (ltb a 64 && not (holds l a))) → IsSet names (complement c) u
   other c l u p h a = h a ∙ ap (λ b. ltb a 64 && not b) (p a)

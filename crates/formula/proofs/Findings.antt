@@ -3,6 +3,9 @@ use Rattle.std.proofs.Common.{◌≡◌, ℕ, ◌+◌, ◌-◌, ◌*◌, ◌<◌
 use Rattle.std.proofs.lemmas.List.{length-map, length-drop}
 use Rattle.base.specs.Labels.{listed}
 use Rattle.formula.specs.declared.built.Found.{Found}
+use Rattle.formula.specs.declared.built.Joint.{Joint}
+use Rattle.formula.specs.declared.built.Joint.TheVariants as joint
+use Rattle.formula.specs.declared.built.Level.TheVariants as level
 use Rattle.formula.specs.declared.cursor.Cursor.{Cursor}
 use Rattle.formula.specs.declared.mark.Sign.{Sign}
 use Rattle.formula.specs.declared.mark.Sign.TheVariants.{And, Or}
@@ -11,6 +14,7 @@ use Rattle.formula.specs.Chaining.{More, ends, breaks, goes_on, Chain, fails, be
 use Rattle.formula.specs.Tokens.{Tok, tok}
 use Rattle.formula.specs.Places.{unread, ahead, moved, Past}
 use Rattle.formula.specs.Finding.{Settles, Finds}
+use Rattle.formula.specs.Levels.{sign_of, operand, stage, joined}
 use Rattle.formula.specs.Reading.{past_sign, Got, Stage, OrLevel, OrMore, AndLevel, AndMore, Tight, Rules, read, rank, Reads}
 use Rattle.formula.proofs.Stages.{or_none, or_some, or_stop, or_more-none, or_more_some, and_none, and_some, and_stop, and-more-none, and-more_some, tight-by}
 
@@ -60,16 +64,19 @@ module _ {X V S : Type 0} (R : Rules X) (sign : Sign) (top below : Stage X) (mor
       first s s' d.0 c.at left.end d.1 d.3 r (goes d.0 s t left r s' d.2 m)
 
 -- the two chains
-module _ {X V S : Type 0} (R : Rules X) (c : Cursor) (Stands : S → S → X → V → Type 0) (Operand : ℕ → S → Option (Found V) → S → Type 0) (Join : V → V → S → V → S → Type 0) where
-  pub or_chain : ((at : ℕ) (s : S) (r : Option (Found V)) (s' : S) → Operand at s r s' → Finds (Stands s s') (moved c at) 2 (λ n. read R n AndLevel) r) →
-      ((x y : X) (s t u u' : S) (v w z : V) → Stands s t x v → Stands t u y w → Join v w u z u' → Stands s u' (R.either x y) z) →
-      (s s' : S) (r : Option (Found V)) → Chain Operand Join Or c.tokens.now c.at s r s' → Finds (Stands s s') c 3 (λ n. read R n OrLevel) r
-  or_chain = chained R Or OrLevel AndLevel OrMore R.either (or_none R) (or_some R) (or_stop R) (or_more-none R) (or_more_some R) c Stands Operand Join
-
-  pub and-chain : ((at : ℕ) (s : S) (r : Option (Found V)) (s' : S) → Operand at s r s' → Finds (Stands s s') (moved c at) 1 (λ n. read R n Tight) r) →
-      ((x y : X) (s t u u' : S) (v w z : V) → Stands s t x v → Stands t u y w → Join v w u z u' → Stands s u' (R.both x y) z) →
-      (s s' : S) (r : Option (Found V)) → Chain Operand Join And c.tokens.now c.at s r s' → Finds (Stands s s') c 2 (λ n. read R n AndLevel) r
-  and-chain = chained R And AndLevel Tight AndMore R.both (and_none R) (and_some R) (and_stop R) (and-more-none R) (and-more_some R) c Stands Operand Join
+pub level_chain : {X V S : Type 0} (R : Rules X) (c : Cursor) (Stands : S → S → X → V → Type 0) (Operand : ℕ → S → Option (Found V) → S → Type 0)
+    (Join : V → V → S → V → S → Type 0) (j : Joint) (sign : Sign) → sign ≡ sign_of j →
+    ((at : ℕ) (s : S) (r : Option (Found V)) (s' : S) → Operand at s r s' →
+    Finds (Stands s s') (moved c at) (rank (stage {X = X} (operand j))) (λ n. read R n (stage (operand j))) r) →
+    ((x y : X) (s t u u' : S) (v w z : V) → Stands s t x v → Stands t u y w → Join v w u z u' → Stands s u' (joined R j x y) z) →
+    (s s' : S) (r : Option (Found V)) → Chain Operand Join sign c.tokens.now c.at s r s' →
+    Finds (Stands s s') c (rank (stage {X = X} (level.Chain j))) (λ n. read R n (stage (level.Chain j))) r
+level_chain R c Stands Operand Join joint.Or sign e operands joins s s' r m =
+    chained R Or OrLevel AndLevel OrMore R.either (or_none R) (or_some R) (or_stop R) (or_more-none R) (or_more_some R) c Stands Operand Join operands joins s s' r
+    (subst (λ x. Chain Operand Join x c.tokens.now c.at s r s') e m)
+level_chain R c Stands Operand Join joint.And sign e operands joins s s' r m =
+    chained R And AndLevel Tight AndMore R.both (and_none R) (and_some R) (and_stop R) (and-more-none R) (and-more_some R) c Stands Operand Join operands joins s s' r
+    (subst (λ x. Chain Operand Join x c.tokens.now c.at s r s') e m)
 
 -- a sign after a place that was moved to
 pub past_there : (c k : Cursor) (at : ℕ) (s : Sign) (r : Option ℕ) → k ≡ moved c at → Past k (past_sign s (ahead k)) r → Past (moved c at) (past_sign s (ahead (moved c at))) r

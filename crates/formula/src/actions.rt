@@ -1,18 +1,31 @@
-ghost use Rattle.std.specs.Prelude.{◌≡◌, ◌≤◌, Some};
+ghost use Rattle.std.specs.Prelude.{◌≡◌, ◌≤◌, ℕ, Some};
 ghost use Rattle.base.specs.Listing.{spelled};
 ghost use Rattle.base.specs.Labels.{listed};
-ghost use Rattle.formula.specs.Building.{stage};
+ghost use Rattle.base.specs.Sets.{holds};
 ghost use Rattle.formula.specs.Choosing.{IsSet, ChoosesBy, Chooses};
+ghost use Rattle.formula.specs.Levels.{operand, stage, in_both};
 ghost use Rattle.formula.specs.Places.{moved};
-ghost use Rattle.formula.specs.Reading.{OrLevel, AndLevel, Tight, then, in_group, in_braces};
+ghost use Rattle.formula.specs.Reading.{OrLevel, Tight, then, in_group, in_braces};
 ghost use Rattle.formula.specs.Trees.{named, complement};
 
-use crate::built::{Found, Level};
+use crate::built::{Found, Joint, Level};
 use crate::cursor::Cursor;
 use crate::mark::{Mark, Sign};
 use crate::token::Token;
 use base::action_set::ActionSet;
 use base::name::Name;
+
+impl Joint {
+    // The actions that two sets have together, or those that both have.
+    fn set(self, left: ActionSet, right: ActionSet) -> ActionSet
+        ensures { (a : ℕ) → holds result a ≡ in_both self (holds left a) (holds right a) }
+    {
+        match self {
+            Joint::Or => left.union(right),
+            Joint::And => left.intersection(right),
+        }
+    }
+}
 
 impl Cursor<'_> {
     // The action of a name. A name that is not listed has none; such texts are refused elsewhere.
@@ -29,27 +42,18 @@ impl Cursor<'_> {
     fn actions(&self, level: Level) -> Option<Found<ActionSet>>
         ensures { Chooses self.now (stage level) result }
     {
-        match level {
-            Level::Or => self.chain(
-                Sign::Or,
-                &mut (),
-                |at: usize, _: &mut ()| -> Option<Found<ActionSet>>
-                    requires { self.now.at ≤ at }
-                    ensures { Chooses (moved self.entry.now at) AndLevel result }
-                { self.moved_to(at).actions(Level::And) },
-                |left: ActionSet, right: ActionSet, _: &mut ()| left.union(right),
-            ),
-            Level::And => self.chain(
-                Sign::And,
-                &mut (),
-                |at: usize, _: &mut ()| -> Option<Found<ActionSet>>
-                    requires { self.now.at ≤ at }
-                    ensures { Chooses (moved self.entry.now at) Tight result }
-                { self.moved_to(at).actions(Level::Tight) },
-                |left: ActionSet, right: ActionSet, _: &mut ()| left.intersection(right),
-            ),
-            Level::Tight => self.tight_actions(),
-        }
+        let Level::Chain(joint) = level else {
+            return self.tight_actions();
+        };
+        self.chain(
+            joint.sign(),
+            &mut (),
+            |at: usize, _: &mut ()| -> Option<Found<ActionSet>>
+                requires { self.now.at ≤ at }
+                ensures { Chooses (moved self.entry.now at) (stage (operand joint)) result }
+            { self.moved_to(at).actions(joint.operand()) },
+            |left: ActionSet, right: ActionSet, _: &mut ()| joint.set(left, right),
+        )
     }
 
     // A word, a name, NOT or parentheses.
@@ -106,7 +110,7 @@ impl Cursor<'_> {
         if sign != Sign::Open {
             return None;
         }
-        let inner = self.actions(Level::Or)?;
+        let inner = self.actions(Level::Chain(Joint::Or))?;
         self.closed(inner, Sign::Close)
     }
 
@@ -114,7 +118,7 @@ impl Cursor<'_> {
     pub(crate) fn braced(&self) -> Option<Found<ActionSet>>
         ensures { ChoosesBy self.now (λ r ts. in_braces ts) result }
     {
-        let inner = self.actions(Level::Or)?;
+        let inner = self.actions(Level::Chain(Joint::Or))?;
         self.closed(inner, Sign::BraceClose)
     }
 }

@@ -4,7 +4,7 @@ ghost use Rattle.formula.specs.Entering.{is_listed, all_listed, Whole, ChecksTok
 ghost use Rattle.formula.specs.Laying.{drafted, shapes};
 ghost use Rattle.formula.specs.Tokens.{tok};
 
-use crate::built::Level;
+use crate::built::{Joint, Level};
 use crate::cursor::Cursor;
 use crate::lexer::lex;
 use crate::nodes::{Draft, Entry, Nodes};
@@ -40,7 +40,7 @@ fn whole(tokens: &[Token], labels: &Labels, draft: &mut Draft) -> Option<usize>
         labels,
         at: 0,
     };
-    let built = start.formula(Level::Or, draft)?;
+    let built = start.formula(Level::Chain(Joint::Or), draft)?;
     if built.end < tokens.len() {
         return None;
     }

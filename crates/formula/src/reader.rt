@@ -1,18 +1,32 @@
 ghost use Rattle.std.specs.Prelude.{◌≡◌, ◌≤◌, Some, None};
 ghost use Rattle.base.specs.Labels.{listed};
-ghost use Rattle.formula.specs.Building.{BuildsBy, Builds, BuildsPart, stage};
+ghost use Rattle.formula.specs.Building.{BuildsBy, Builds, BuildsPart};
 ghost use Rattle.formula.specs.Choosing.{IsSet};
+ghost use Rattle.formula.specs.Laying.{shape};
+ghost use Rattle.formula.specs.Levels.{operand, stage, node_of};
 ghost use Rattle.formula.specs.Places.{moved};
-ghost use Rattle.formula.specs.Reading.{OrLevel, AndLevel, Tight, then, if_there, past_sign, in_group, with_formula, after_braces, part, two_parts};
+ghost use Rattle.formula.specs.Reading.{OrLevel, Tight, then, if_there, past_sign, in_group, with_formula, after_braces, part, two_parts};
 ghost use Rattle.formula.specs.Trees.{Acts, NOT, short};
 ghost use Rattle.formula.specs.declared.mark.Sign.TheVariants.{BracketOpen};
 
-use crate::built::{Found, Level};
+use crate::built::{Found, Joint, Level};
 use crate::cursor::Cursor;
 use crate::mark::{Mark, Operator, Quantifier, Sign};
 use crate::node::{Node, Part};
 use crate::nodes::Draft;
 use base::action_set::ActionSet;
+
+impl Joint {
+    // A node over two others.
+    fn node(self, left: usize, right: usize) -> Node
+        ensures { shape result ≡ node_of self left right }
+    {
+        match self {
+            Joint::Or => Node::Or(left, right),
+            Joint::And => Node::And(left, right),
+        }
+    }
+}
 
 impl Cursor<'_> {
     // Writes a formula, as far as a level reaches.
@@ -20,27 +34,18 @@ impl Cursor<'_> {
     pub(crate) fn formula(&self, level: Level, draft: &mut Draft) -> Option<Found<usize>>
         ensures { Builds self.now draft.old draft.new (stage level) result }
     {
-        match level {
-            Level::Or => self.chain(
-                Sign::Or,
-                draft,
-                |at: usize, draft: &mut Draft| -> Option<Found<usize>>
-                    requires { self.now.at ≤ at }
-                    ensures { Builds (moved self.entry.now at) draft.entry.now draft.exit.now AndLevel result }
-                { self.moved_to(at).formula(Level::And, draft) },
-                |left: usize, right: usize, draft: &mut Draft| draft.put(Node::Or(left, right)),
-            ),
-            Level::And => self.chain(
-                Sign::And,
-                draft,
-                |at: usize, draft: &mut Draft| -> Option<Found<usize>>
-                    requires { self.now.at ≤ at }
-                    ensures { Builds (moved self.entry.now at) draft.entry.now draft.exit.now Tight result }
-                { self.moved_to(at).formula(Level::Tight, draft) },
-                |left: usize, right: usize, draft: &mut Draft| draft.put(Node::And(left, right)),
-            ),
-            Level::Tight => self.tight(draft),
-        }
+        let Level::Chain(joint) = level else {
+            return self.tight(draft);
+        };
+        self.chain(
+            joint.sign(),
+            draft,
+            |at: usize, draft: &mut Draft| -> Option<Found<usize>>
+                requires { self.now.at ≤ at }
+                ensures { Builds (moved self.entry.now at) draft.entry.now draft.exit.now (stage (operand joint)) result }
+            { self.moved_to(at).formula(joint.operand(), draft) },
+            |left: usize, right: usize, draft: &mut Draft| draft.put(joint.node(left, right)),
+        )
     }
 
     // A word, NOT, parentheses or an operator.
@@ -88,7 +93,7 @@ impl Cursor<'_> {
         if sign != Sign::Open {
             return None;
         }
-        let inner = self.formula(Level::Or, draft)?;
+        let inner = self.formula(Level::Chain(Joint::Or), draft)?;
         self.closed(inner, Sign::Close)
     }
 
@@ -114,9 +119,11 @@ impl Cursor<'_> {
         ensures { BuildsBy self.now draft.old draft.new (λ r ts. if_there (past_sign BracketOpen ts) (two_parts (r OrLevel) quantifier) None) result }
     {
         let inside = self.after(Sign::BracketOpen)?;
-        let first = self.moved_to(inside).part(Level::Or, draft)?;
+        let first = self.moved_to(inside).part(Level::Chain(Joint::Or), draft)?;
         let link = self.moved_to(first.end).link()?;
-        let second = self.moved_to(first.end + 1).part(Level::Or, draft)?;
+        let second = self
+            .moved_to(first.end + 1)
+            .part(Level::Chain(Joint::Or), draft)?;
         let second = self.closed(second, Sign::BracketClose)?;
         let node = Node::Path {
             quantifier,

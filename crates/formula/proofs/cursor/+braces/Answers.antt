@@ -8,23 +8,16 @@ use Rattle.formula.specs.Reading.{Tight, then, read, action_rules}
 use Rattle.formula.specs.Tokens.{name, tok}
 use Rattle.formula.specs.Trees.{all, none, silent, named, complement}
 use Rattle.formula.proofs.Choices as choices
-use Rattle.formula.proofs.Findings.{or_chain, and-chain, tight-from}
+use Rattle.formula.proofs.Findings.{level_chain, tight-from}
 use Rattle.formula.proofs.Stages.{tight-by}
 use Rattle.formula.proofs.cursor.+braces.Goals as goal
 
-pub Cursor::actions-returns-in-Or : goal.Cursor::actions-returns-in-Or
-Cursor::actions-returns-in-Or t c =
-    let names = listed c.args.self.now.labels.now in
-    rw c.in-Or.is
-    (or_chain action_rules c.args.self.now (λ _ _ x y. IsSet names x y) _ _ (λ at s r s' o. o.3)
-    (λ x y s t u u' v w z h k j. choices.united names x y v w z h k (search of_calls)) _ _ _ c.chain.ensures)
-
-pub Cursor::actions-returns-in-And : goal.Cursor::actions-returns-in-And
-Cursor::actions-returns-in-And t c =
-    let names = listed c.args.self.now.labels.now in
-    rw c.in-And.is
-    (and-chain action_rules c.args.self.now (λ _ _ x y. IsSet names x y) _ _ (λ at s r s' o. o.3)
-    (λ x y s t u u' v w z h k j. choices.common names x y v w z h k (search of_calls)) _ _ _ c.chain-in-And.ensures)
+pub Cursor::actions-returns : goal.Cursor::actions-returns
+Cursor::actions-returns t c =
+    let names = listed c.args.self.now.labels.now in let j = c.in-Chain.joint in
+    rw c.in-Chain.is
+    (level_chain action_rules c.args.self.now (λ _ _ x y. IsSet names x y) _ _ j _ c.sign.ensures (λ at s r s' o. o.3)
+    (λ x y s t u u' v w z h k i. choices.joined names j x y v w z h k (search of_calls)) _ _ _ c.chain.ensures)
 
 pub Cursor::other_actions-returns : goal.Cursor::other_actions-returns
 Cursor::other_actions-returns t c =

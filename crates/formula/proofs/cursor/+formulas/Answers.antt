@@ -1,35 +1,26 @@
 use Rattle.std.proofs.Common.{of_calls, ◌≡◌, ◌+◌, Some, None, sym, refl, ap, subst, arith}
 use Rattle.base.specs.Labels.{listed}
 use Rattle.formula.specs.declared.mark.Mark.TheVariants.{True, False, Not, Short, Path, Sign as signed}
-use Rattle.formula.specs.declared.mark.Sign.TheVariants.{BracketClose}
 use Rattle.formula.specs.Building.{Laid, BuildsPart}
-use Rattle.formula.specs.Laying.{drafted, push, top, not_node, and_node, or_node}
+use Rattle.formula.specs.Laying.{drafted, push, top, not_node}
+use Rattle.formula.specs.Levels.{node_of}
 use Rattle.formula.specs.Places.{ahead, Linked}
 use Rattle.formula.specs.Reading.{OrLevel, Tight, then, read, part, link, formula_rules}
 use Rattle.formula.specs.Trees.{TRUE, FALSE, NOT, short, path, all}
 use Rattle.formula.proofs.Buildings as buildings
-use Rattle.formula.proofs.Findings.{or_chain, and-chain, past_there, none_found}
+use Rattle.formula.proofs.Findings.{level_chain, none_found}
 use Rattle.formula.proofs.Layings as layings
 use Rattle.formula.proofs.Stages.{tight-by}
 use Rattle.formula.proofs.cursor.+formulas.Goals as goal
 
-pub Cursor::formula-returns-in-Or : goal.Cursor::formula-returns-in-Or
-Cursor::formula-returns-in-Or t c =
-    let names = listed c.args.self.now.labels.now in
-    rw c.in-Or.is
-    (or_chain formula_rules c.args.self.now (Laid names) _ _ (λ at s r s' o. rw (sym o.2, sym o.4) o.3)
-    (λ x y s t u u' v w z h k j.
-    let e : (drafted j.1.now ≡ push (drafted j.0.now) (or_node v w)) × (z ≡ top (drafted j.1.now)) = search of_calls in
-    buildings.joined names or_node x y s t u u' j.0.now j.1.now v w z h k j.2 j.4 e.0 e.1) _ _ _ c.chain.ensures)
-
-pub Cursor::formula-returns-in-And : goal.Cursor::formula-returns-in-And
-Cursor::formula-returns-in-And t c =
-    let names = listed c.args.self.now.labels.now in
-    rw c.in-And.is
-    (and-chain formula_rules c.args.self.now (Laid names) _ _ (λ at s r s' o. rw (sym o.2, sym o.4) o.3)
-    (λ x y s t u u' v w z h k j.
-    let e : (drafted j.1.now ≡ push (drafted j.0.now) (and_node v w)) × (z ≡ top (drafted j.1.now)) = search of_calls in
-    buildings.joined names and_node x y s t u u' j.0.now j.1.now v w z h k j.2 j.4 e.0 e.1) _ _ _ c.chain-in-And.ensures)
+pub Cursor::formula-returns : goal.Cursor::formula-returns
+Cursor::formula-returns t c =
+    let names = listed c.args.self.now.labels.now in let j = c.in-Chain.joint in
+    rw c.in-Chain.is
+    (level_chain formula_rules c.args.self.now (Laid names) _ _ j _ c.sign.ensures (λ at s r s' o. rw (sym o.2, sym o.4) o.3)
+    (λ x y s t u u' v w z h k i.
+    let e : (drafted i.1.now ≡ push (drafted i.0.now) (node_of c.in-Chain.joint v w)) × (z ≡ top (drafted i.1.now)) = search of_calls in
+    buildings.joined names j x y s t u u' i.0.now i.1.now v w z h k i.2 i.4 e.0 e.1) _ _ _ c.chain.ensures)
 
 pub Cursor::negated-returns : goal.Cursor::negated-returns
 Cursor::negated-returns t c =

@@ -1,5 +1,5 @@
 use Rattle.std.proofs.Common.{◌+◌, ◌-◌, ◌*◌, length}
-use Rattle.formula.specs.Building.{stage}
+use Rattle.formula.specs.Levels.{operand, stage}
 use Rattle.formula.specs.Reading.{rank}
 use Rattle.formula.specs.Trees.{Tree}
 use Rattle.formula.proofs.cursor.+formulas.Given as goal
@@ -8,10 +8,7 @@ abbrev pub decreases-Cursor::formula : goal.decreases-Cursor::formula
 decreases-Cursor::formula l = 12 * (length l.self.now.tokens.now - l.self.now.at) + 2 * rank (stage {X = Tree} l.level)
 
 abbrev pub decreases-Cursor::formula-chain+arg3 : goal.decreases-Cursor::formula-chain+arg3
-decreases-Cursor::formula-chain+arg3 l = 12 * (length l.self.now.tokens.now - l.at) + 5
-
-abbrev pub decreases-Cursor::formula-chain+arg3+2 : goal.decreases-Cursor::formula-chain+arg3+2
-decreases-Cursor::formula-chain+arg3+2 l = 12 * (length l.self.now.tokens.now - l.at) + 3
+decreases-Cursor::formula-chain+arg3 l = 12 * (length l.self.now.tokens.now - l.at) + 2 * rank (stage {X = Tree} (operand l.joint)) + 1
 
 abbrev pub decreases-Cursor::tight : goal.decreases-Cursor::tight
 decreases-Cursor::tight l = 12 * (length l.self.now.tokens.now - l.self.now.at) + 1
