@@ -1,5 +1,6 @@
 -- The functions that read action formulas, step by step.
 use Rattle.std.proofs.Common.{◌≡◌, ℕ, ◌+◌, ◌*◌, not, ◌&&◌, ◌||◌, ltb, ◌⊎◌, List, ◌∷◌, length, Some, None, Option, sym, ap, ◌∙◌, subst, inl, inr, arith}
+use Rattle.std.specs.Borrow.{Bor}
 use Rattle.base.specs.Labels.{listed}
 use Rattle.base.specs.Sets.{holds}
 use Rattle.base.specs.declared.action_set.ActionSet.{ActionSet}
@@ -19,7 +20,7 @@ use Rattle.formula.specs.Choosing.{set_of, IsSet, ChoosesBy, Chooses}
 use Rattle.formula.specs.Finding.{Settles}
 use Rattle.formula.specs.Levels.{in_both}
 use Rattle.formula.specs.Levels as levels
-use Rattle.formula.specs.Places.{ahead, moved, Closed}
+use Rattle.formula.specs.Places.{unread, ahead, moved, Closed}
 use Rattle.formula.specs.Reading.{past_sign, if_there, ended_by, in_braces, Got, Reader, then, OrLevel, Tight, Reads, action_at, action_rules}
 use Rattle.formula.specs.Tokens.{Tok, mark, tok}
 use Rattle.formula.specs.Trees.{Acts, complement}
@@ -38,10 +39,10 @@ braces_some : (ts us rest : List Tok) (c : Acts) → Reads action_rules OrLevel 
 unfolding in_braces
 braces_some ts us rest c a e = ap (λ g. then g (ended_by BraceClose)) (a (3 * length ts + 4) (omega arith)) ∙ ap (λ p. if_there {X = Got Acts} p (λ vs. Some (c, vs)) None) e
 
-pub braces_closed : (c : Cursor) (y : Found ActionSet) → Chooses c OrLevel (Some y) → (r : Option (Found ActionSet)) → Closed c BraceClose y r → ChoosesBy c (λ r ts. in_braces ts) r
+pub braces_closed : (c : Cursor) (y : Found ActionSet) → Chooses c OrLevel (Some y) → (r : Option (Found ActionSet)) → Closed BraceClose y r → ChoosesBy c (λ r ts. in_braces ts) r
 braces_closed c y d None e = λ n h. braces_open _ _ d.0 d.1 e
 braces_closed c y d (Some z) e =
-    (d.0, (λ n h. braces_some _ _ _ d.0 d.1 e.0), subst (IsSet (listed c.labels.now) d.0) (sym e.3) d.2, omega (arith, d.3, e.1))
+    (d.0, (λ n h. braces_some _ _ _ d.0 d.1 e.0), subst (IsSet (listed c.labels.now) d.0) (sym e.2) d.2, omega (arith, d.3, e.1))
 
 -- an operator is no action formula
 pub no_action : (r : Reader Acts) (m : Mark) (ts : List Tok) → ((x : Operator) × m ≡ Short x) ⊎ (((x : Quantifier) × m ≡ Path x) ⊎ ((x : Link) × m ≡ Between x)) → action_at r m ts ≡ None
@@ -62,7 +63,7 @@ pub none-at : (c : Cursor) (b : ℕ) (F : ℕ → List Tok → Got Acts) (r : Op
 none-at = findings.none_found IsSet
 
 -- a word, by what is read after it
-pub by_mark : (c k : Cursor) (x : Token) (m m' : Mark) → ahead c ≡ tok x ∷ ahead (moved c (c.at + 1)) → x ≡ token.Mark m → m ≡ m' → k ≡ moved c (c.at + 1) →
+pub by_mark : (c k : Cursor) (x : Token) (m m' : Mark) (rest : Bor (List Token)) → ahead c ≡ tok x ∷ unread rest → x ≡ token.Mark m → m ≡ m' → k ≡ moved c rest →
     (r : Option (Found ActionSet)) → ChoosesBy k (λ r ts. action_at r m' ts) r → Chooses c Tight r
-by_mark c k x m m' e i q p r f =
-    findings.tight-from IsSet action_rules c k (mark m') p (e ∙ ap (λ y. tok y ∷ ahead (moved c (c.at + 1))) (i ∙ ap token.Mark q)) r f
+by_mark c k x m m' rest e i q p r f =
+    findings.tight-from IsSet action_rules c k (mark m') rest p (e ∙ ap (λ y. tok y ∷ unread rest) (i ∙ ap token.Mark q)) r f

@@ -1,12 +1,13 @@
 ghost use Rattle.std.specs.Prelude.{◌≡◌};
 
 use crate::mark::Sign;
+use crate::token::Token;
 
-// What was read, and the place after it.
+// What was read, and the tokens after it.
 #[derive(Clone, Copy)]
-pub struct Found<T> {
+pub struct Found<'a, T> {
     pub(crate) value: T,
-    pub(crate) end: usize,
+    pub(crate) rest: &'a [Token],
 }
 
 // A word that joins what stands on both sides of it; AND binds closer than OR.

@@ -35,13 +35,9 @@ fn all_listed(tokens: &[Token], labels: &Labels) -> bool
 fn whole(tokens: &[Token], labels: &Labels, draft: &mut Draft) -> Option<usize>
     ensures { Whole (listed labels.now) (map tok tokens.now) (drafted draft.old) (drafted draft.new) result }
 {
-    let start = Cursor {
-        tokens,
-        labels,
-        at: 0,
-    };
+    let start = Cursor { tokens, labels };
     let built = start.formula(Level::Chain(Joint::Or), draft)?;
-    if built.end < tokens.len() {
+    if !built.rest.is_empty() {
         return None;
     }
     Some(built.value)
