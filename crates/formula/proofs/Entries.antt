@@ -1,17 +1,18 @@
 -- From the tokens of a text to what entering it answers.
-use Rattle.std.proofs.Common.{◌≡◌, ℕ, ◌+◌, ◌-◌, ◌*◌, ◌<◌, ◌≤◌, Bool, true, false, cond, ltb, ◌⊎◌, List, [], ◌∷◌, ◌++◌, length, take, Some, None, Ok, Err, Option, Result, sym, refl, ap, ◌∙◌, subst, inl, inr, arith}
+use Rattle.std.proofs.Common.{◌≡◌, ℕ, ◌+◌, ◌-◌, ◌*◌, ◌≤◌, Bool, true, false, cond, eqb, ltb, ◌⊎◌, List, [], ◌∷◌, ◌++◌, map, length, take, Some, None, Ok, Err, Option, Result, sym, refl, ap, ◌∙◌, subst, inl, inr, arith}
 use Rattle.std.proofs.lemmas.List.{length-append, length-map, length-take}
-use Rattle.std.proofs.lemmas.Bool.{cond-true, cond-false, lt-ltb, le-ltb, both_ways}
+use Rattle.std.proofs.lemmas.Bool.{cond-true, cond-false, lt-ltb, le-ltb, both_ways, eqb-true, false≢true}
 use Rattle.base.specs.declared.refusal.Refusal.{Refusal}
-use Rattle.base.specs.declared.refusal.Refusal.TheVariants.{Grammar, Nameless, Full}
+use Rattle.base.specs.declared.refusal.Refusal.TheVariants.{Grammar, Full}
 use Rattle.formula.specs.declared.nodes.Entry.{Entry}
 use Rattle.formula.specs.declared.nodes.Nodes.{Nodes}
 use Rattle.formula.specs.Entering.{all_listed, fits, verdict, verdict_on, verdict_at, Whole, Written, Checked, Planned, Refused, Entered}
 use Rattle.formula.specs.Formulas.{size}
 use Rattle.formula.specs.Grammar.{Says}
 use Rattle.formula.specs.Laying.{Shape, shape, shapes, DraftState, top, lay, formula_at}
-use Rattle.formula.specs.Reading.{Reads, OrLevel, formula_rules, nothing_after, whole_at, tree_of}
-use Rattle.formula.specs.Tokens.{Tok, tokens_of}
+use Rattle.formula.specs.Reading.{Reads, OrLevel, formula_rules, whole_at, tree_of}
+use Rattle.formula.specs.declared.token.Token.{Token}
+use Rattle.formula.specs.Tokens.{Tok, tok, tokens_of}
 use Rattle.formula.specs.Trees.{Tree}
 use Rattle.formula.proofs.Complete.{tree_in}
 use Rattle.formula.proofs.Decoding.{Put, Over, laid, earlier}
@@ -25,21 +26,15 @@ pub tree-none : (ts : List Tok) → Reads formula_rules OrLevel ts None → tree
 unfolding tree_of
 tree-none ts a = ap whole_at (a (3 * length ts + 4) (omega arith))
 
-pub tree-more : (ts us : List Tok) (t : Tree) → Reads formula_rules OrLevel ts (Some (t, us)) → 0 < length us → tree_of ts ≡ None
+pub tree-more : (ts : List Tok) (rest : List Token) (t : Tree) → Reads formula_rules OrLevel ts (Some (t, map tok rest)) → false ≡ eqb (length rest) 0 → tree_of ts ≡ None
 unfolding tree_of
-tree-more ts us t a h = ap whole_at (a (3 * length ts + 4) (omega arith)) ∙ at us h
-  where
-    at : (vs : List Tok) → 0 < length vs → nothing_after t vs ≡ None
-    at [] h = absurd (omega arith)
-    at (v ∷ vs) h = refl
+tree-more ts [] t a h = absurd (false≢true h)
+tree-more ts (x ∷ rest) t a h = ap whole_at (a (3 * length ts + 4) (omega arith))
 
-pub tree_some : (ts us : List Tok) (t : Tree) → Reads formula_rules OrLevel ts (Some (t, us)) → length us ≡ 0 → tree_of ts ≡ Some t
+pub tree_some : (ts : List Tok) (rest : List Token) (t : Tree) → Reads formula_rules OrLevel ts (Some (t, map tok rest)) → true ≡ eqb (length rest) 0 → tree_of ts ≡ Some t
 unfolding tree_of
-tree_some ts us t a h = ap whole_at (a (3 * length ts + 4) (omega arith)) ∙ at us h
-  where
-    at : (vs : List Tok) → length vs ≡ 0 → nothing_after t vs ≡ Some t
-    at [] h = refl
-    at (v ∷ vs) h = absurd (omega arith)
+tree_some ts [] t a h = ap whole_at (a (3 * length ts + 4) (omega arith))
+tree_some ts (x ∷ rest) t a h = let k = eqb-true (length (x ∷ rest)) 0 (sym h) in absurd (omega (arith, k))
 
 -- there are 48 nodes at most
 pub few_shapes : (n : Nodes) → length (shapes n) ≤ 48

@@ -1,24 +1,22 @@
 -- What a function of the reader finds, from what the functions that it calls find.
-use Rattle.std.proofs.Common.{◌≡◌, ℕ, ◌+◌, ◌-◌, ◌*◌, ◌<◌, ◌≤◌, List, ◌∷◌, length, drop, Some, None, Option, sym, ap, ◌∙◌, subst, arith}
-use Rattle.std.proofs.lemmas.List.{length-map, length-drop}
+use Rattle.std.proofs.Common.{◌≡◌, ℕ, ◌+◌, ◌*◌, ◌<◌, ◌≤◌, List, ◌∷◌, length, Some, None, Option, sym, ap, ◌∙◌, subst, arith}
+use Rattle.std.specs.Borrow.{Bor}
 use Rattle.base.specs.Labels.{listed}
 use Rattle.formula.specs.declared.built.Found.{Found}
+use Rattle.formula.specs.declared.built.Joint.{Joint}
+use Rattle.formula.specs.declared.built.Joint.TheVariants as joint
+use Rattle.formula.specs.declared.built.Level.TheVariants as level
 use Rattle.formula.specs.declared.cursor.Cursor.{Cursor}
 use Rattle.formula.specs.declared.mark.Sign.{Sign}
 use Rattle.formula.specs.declared.mark.Sign.TheVariants.{And, Or}
 use Rattle.formula.specs.declared.token.Token.{Token}
 use Rattle.formula.specs.Chaining.{More, ends, breaks, goes_on, Chain, fails, begins}
-use Rattle.formula.specs.Tokens.{Tok, tok}
+use Rattle.formula.specs.Tokens.{Tok}
 use Rattle.formula.specs.Places.{unread, ahead, moved, Past}
 use Rattle.formula.specs.Finding.{Settles, Finds}
+use Rattle.formula.specs.Levels.{sign_of, operand, stage, joined}
 use Rattle.formula.specs.Reading.{past_sign, Got, Stage, OrLevel, OrMore, AndLevel, AndMore, Tight, Rules, read, rank, Reads}
-use Rattle.formula.proofs.Stages.{or_none, or_some, or_stop, or_more-none, or_more_some, and_none, and_some, and_stop, and-more-none, and-more_some, tight-by}
-
-pub unread-length : (s : List Token) (at : ℕ) → length (unread s at) ≡ length s - at
-unread-length s at = length-map (drop at s) tok ∙ length-drop at s
-
-pub fewer : (s : List Token) (at mid : ℕ) → at ≤ mid → length (unread s mid) ≤ length (unread s at)
-fewer s at mid h = omega (arith, unread-length s at, unread-length s mid)
+use Rattle.formula.proofs.Stages.{or_none, or_some, or_stop, or_more-none, or_more_some, and_none, and_some, and_stop, and-more-none, and-more_some, tight-by, past_shorter}
 
 -- A chain, by how its stages read: `top` a whole one, `more x` what goes on after x, `below` an operand.
 module _ {X V S : Type 0} (R : Rules X) (sign : Sign) (top below : Stage X) (more : X → Stage X) (make : X → X → X)
@@ -28,52 +26,56 @@ module _ {X V S : Type 0} (R : Rules X) (sign : Sign) (top below : Stage X) (mor
     (no_more : (x : X) (ts us : List Tok) → past_sign sign ts ≡ Some us → Reads R below us None → Reads R (more x) ts None)
     (one_more : (x y : X) (ts us rest : List Tok) (g : Got X) → past_sign sign ts ≡ Some us → Reads R below us (Some (y, rest)) → length rest ≤ length us →
     Reads R (more (make x y)) rest g → Reads R (more x) ts g)
-    (c : Cursor) (Stands : S → S → X → V → Type 0) (Operand : ℕ → S → Option (Found V) → S → Type 0) (Join : V → V → S → V → S → Type 0)
-    (operand : (at : ℕ) (s : S) (r : Option (Found V)) (s' : S) → Operand at s r s' → Finds (Stands s s') (moved c at) (rank below) (λ n. read R n below) r)
+    (c : Cursor) (Stands : S → S → X → V → Type 0) (Operand : Bor (List Token) → S → Option (Found V) → S → Type 0) (Join : V → V → S → V → S → Type 0)
+    (operand : (at : Bor (List Token)) (s : S) (r : Option (Found V)) (s' : S) → Operand at s r s' → Finds (Stands s s') (moved c at) (rank below) (λ n. read R n below) r)
     (join : (x y : X) (s t u u' : S) (v w z : V) → Stands s t x v → Stands t u y w → Join v w u z u' → Stands s u' (make x y) z) where
-  abbrev At : S → S → Stage X → ℕ → Option (Found V) → Type 0
+  abbrev At : S → S → Stage X → Bor (List Token) → Option (Found V) → Type 0
   At s s' l at r = Finds (Stands s s') (moved c at) (rank l) (λ n. read R n l) r
 
-  first : (s s' : S) (x : X) (at mid : ℕ) → Reads R below (unread c.tokens.now at) (Some (x, unread c.tokens.now mid)) → at ≤ mid → (r : Option (Found V)) →
-      At s s' (more x) mid r → At s s' top at r
-  first s s' x at mid a h None k = some _ _ x None a (fewer c.tokens.now at mid h) k
-  first s s' x at mid a h (Some y) k = (k.0, some _ _ x _ a (fewer c.tokens.now at mid h) k.1, k.2, omega (arith, k.3))
+  first : (s s' : S) (x : X) (at mid : Bor (List Token)) → Reads R below (unread at) (Some (x, unread mid)) → length (unread mid) ≤ length (unread at) →
+      (r : Option (Found V)) → At s s' (more x) mid r → At s s' top at r
+  first s s' x at mid a h None k = some _ _ x None a h k
+  first s s' x at mid a h (Some y) k = (k.0, some _ _ x _ a h k.1, k.2, omega (arith, h, k.3))
 
-  next : (s s' : S) (x y : X) (at on mid : ℕ) → past_sign sign (unread c.tokens.now at) ≡ Some (unread c.tokens.now on) → on ≡ at + 1 →
-      Reads R below (unread c.tokens.now on) (Some (y, unread c.tokens.now mid)) → on ≤ mid → (r : Option (Found V)) → At s s' (more (make x y)) mid r → At s s' (more x) at r
-  next s s' x y at on mid e l a h None k = one_more x y _ _ _ None e a (fewer c.tokens.now on mid h) k
-  next s s' x y at on mid e l a h (Some z) k = (k.0, one_more x y _ _ _ _ e a (fewer c.tokens.now on mid h) k.1, k.2, omega (arith, k.3))
+  next : (s s' : S) (x y : X) (at on mid : Bor (List Token)) → past_sign sign (unread at) ≡ Some (unread on) → Reads R below (unread on) (Some (y, unread mid)) →
+      length (unread mid) ≤ length (unread on) → (r : Option (Found V)) → At s s' (more (make x y)) mid r → At s s' (more x) at r
+  next s s' x y at on mid e a h None k = one_more x y _ _ _ None e a h k
+  next s s' x y at on mid e a h (Some z) k = (k.0, one_more x y _ _ _ _ e a h k.1, k.2, omega (arith, past_shorter sign (unread at) (unread on) e, h, k.3))
 
   goes : (x : X) (s₀ s : S) (left : Found V) (r : Option (Found V)) (s' : S) → Stands s₀ s x left.value →
-      More Operand Join sign c.tokens.now left s r s' → At s₀ s' (more x) left.end r
+      More Operand Join sign left s r s' → At s₀ s' (more x) left.rest r
   goes x s₀ s left r s' k (ends e) = (x, stop x _ e, k, omega arith)
-  goes x s₀ s left r s' k (breaks {next = on} e n o) = no_more x _ _ e (operand on s None s' o)
-  goes x s₀ s left r s' k (goes_on {right = right} {t = t} {u = u} {next = on} {v = v} e n o j m) =
+  goes x s₀ s left r s' k (breaks {next = on} e o) = no_more x _ _ e (operand on s None s' o)
+  goes x s₀ s left r s' k (goes_on {right = right} {t = t} {u = u} {next = on} {v = v} e o j m) =
       let d = operand on s (Some right) t o in
-      next s₀ s' x d.0 left.end on right.end e n d.1 d.3 r
-      (goes (make x d.0) s₀ u (record { value = v; end = right.end }) r s' (join x d.0 s₀ s t u left.value right.value v k d.2 j) m)
+      next s₀ s' x d.0 left.rest on right.rest e d.1 d.3 r
+      (goes (make x d.0) s₀ u (record { value = v; rest = right.rest }) r s' (join x d.0 s₀ s t u left.value right.value v k d.2 j) m)
 
-  pub chained : (s s' : S) (r : Option (Found V)) → Chain Operand Join sign c.tokens.now c.at s r s' → Finds (Stands s s') c (rank top) (λ n. read R n top) r
-  chained s s' r (fails o) = none _ (operand c.at s None s' o)
+  pub chained : (s s' : S) (r : Option (Found V)) → Chain Operand Join sign c.tokens s r s' → Finds (Stands s s') c (rank top) (λ n. read R n top) r
+  chained s s' r (fails o) = none _ (operand c.tokens s None s' o)
   chained s s' r (begins {t = t} {left = left} o m) =
-      let d = operand c.at s (Some left) t o in
-      first s s' d.0 c.at left.end d.1 d.3 r (goes d.0 s t left r s' d.2 m)
+      let d = operand c.tokens s (Some left) t o in
+      first s s' d.0 c.tokens left.rest d.1 d.3 r (goes d.0 s t left r s' d.2 m)
 
 -- the two chains
-module _ {X V S : Type 0} (R : Rules X) (c : Cursor) (Stands : S → S → X → V → Type 0) (Operand : ℕ → S → Option (Found V) → S → Type 0) (Join : V → V → S → V → S → Type 0) where
-  pub or_chain : ((at : ℕ) (s : S) (r : Option (Found V)) (s' : S) → Operand at s r s' → Finds (Stands s s') (moved c at) 2 (λ n. read R n AndLevel) r) →
-      ((x y : X) (s t u u' : S) (v w z : V) → Stands s t x v → Stands t u y w → Join v w u z u' → Stands s u' (R.either x y) z) →
-      (s s' : S) (r : Option (Found V)) → Chain Operand Join Or c.tokens.now c.at s r s' → Finds (Stands s s') c 3 (λ n. read R n OrLevel) r
-  or_chain = chained R Or OrLevel AndLevel OrMore R.either (or_none R) (or_some R) (or_stop R) (or_more-none R) (or_more_some R) c Stands Operand Join
+pub level_chain : {X V S : Type 0} (R : Rules X) (c : Cursor) (Stands : S → S → X → V → Type 0) (Operand : Bor (List Token) → S → Option (Found V) → S → Type 0)
+    (Join : V → V → S → V → S → Type 0) (j : Joint) (sign : Sign) → sign ≡ sign_of j →
+    ((at : Bor (List Token)) (s : S) (r : Option (Found V)) (s' : S) → Operand at s r s' →
+    Finds (Stands s s') (moved c at) (rank (stage {X = X} (operand j))) (λ n. read R n (stage (operand j))) r) →
+    ((x y : X) (s t u u' : S) (v w z : V) → Stands s t x v → Stands t u y w → Join v w u z u' → Stands s u' (joined R j x y) z) →
+    (s s' : S) (r : Option (Found V)) → Chain Operand Join sign c.tokens s r s' →
+    Finds (Stands s s') c (rank (stage {X = X} (level.Chain j))) (λ n. read R n (stage (level.Chain j))) r
+level_chain R c Stands Operand Join joint.Or sign e operands joins s s' r m =
+    chained R Or OrLevel AndLevel OrMore R.either (or_none R) (or_some R) (or_stop R) (or_more-none R) (or_more_some R) c Stands Operand Join operands joins s s' r
+    (subst (λ x. Chain Operand Join x c.tokens s r s') e m)
+level_chain R c Stands Operand Join joint.And sign e operands joins s s' r m =
+    chained R And AndLevel Tight AndMore R.both (and_none R) (and_some R) (and_stop R) (and-more-none R) (and-more_some R) c Stands Operand Join operands joins s s' r
+    (subst (λ x. Chain Operand Join x c.tokens s r s') e m)
 
-  pub and-chain : ((at : ℕ) (s : S) (r : Option (Found V)) (s' : S) → Operand at s r s' → Finds (Stands s s') (moved c at) 1 (λ n. read R n Tight) r) →
-      ((x y : X) (s t u u' : S) (v w z : V) → Stands s t x v → Stands t u y w → Join v w u z u' → Stands s u' (R.both x y) z) →
-      (s s' : S) (r : Option (Found V)) → Chain Operand Join And c.tokens.now c.at s r s' → Finds (Stands s s') c 2 (λ n. read R n AndLevel) r
-  and-chain = chained R And AndLevel Tight AndMore R.both (and_none R) (and_some R) (and_stop R) (and-more-none R) (and-more_some R) c Stands Operand Join
-
--- a sign after a place that was moved to
-pub past_there : (c k : Cursor) (at : ℕ) (s : Sign) (r : Option ℕ) → k ≡ moved c at → Past k (past_sign s (ahead k)) r → Past (moved c at) (past_sign s (ahead (moved c at))) r
-past_there c k at s r e p = subst (λ x. Past x (past_sign s (ahead x)) r) e p
+-- a sign where these tokens are left
+pub past_there : (c k : Cursor) (rest : Bor (List Token)) (s : Sign) (r : Option (Bor (List Token))) → k ≡ moved c rest → Past (ahead k) (past_sign s (ahead k)) r →
+    Past (unread rest) (past_sign s (unread rest)) r
+past_there c k rest s r e p = subst (λ x. Past (ahead x) (past_sign s (ahead x)) r) e p
 
 module _ {X V : Type 0} (Stands : List (List ℕ) → X → V → Type 0) where
   abbrev pub Finds_at : Cursor → ℕ → (ℕ → List Tok → Got X) → Option (Found V) → Type 0
@@ -83,21 +85,21 @@ module _ {X V : Type 0} (Stands : List (List ℕ) → X → V → Type 0) where
   pub none_found : (c : Cursor) (b : ℕ) (F : ℕ → List Tok → Got X) (r : Option (Found V)) → r ≡ None → Settles b (ahead c) F None → Finds_at c b F r
   none_found c b F r e k = subst (Finds_at c b F) (sym e) k
 
-  -- what is found at a later place, where the steps from here lead there
-  pub led : (c k : Cursor) (at b b' : ℕ) (F F' : ℕ → List Tok → Got X) → k ≡ moved c at → c.at ≤ at → b' ≤ b →
-      ((n : ℕ) → 3 * length (ahead c) + b < n → F n (ahead c) ≡ F' n (ahead (moved c at))) → (r : Option (Found V)) → Finds_at k b' F' r → Finds_at c b F r
-  led c k at b b' F F' p h l e r f = from r (subst (λ x. Finds_at x b' F' r) p f)
+  -- what is found where less is left, where the steps from here lead there
+  pub led : (c k : Cursor) (rest : Bor (List Token)) (b b' : ℕ) (F F' : ℕ → List Tok → Got X) → k ≡ moved c rest → length (unread rest) ≤ length (ahead c) → b' ≤ b →
+      ((n : ℕ) → 3 * length (ahead c) + b < n → F n (ahead c) ≡ F' n (unread rest)) → (r : Option (Found V)) → Finds_at k b' F' r → Finds_at c b F r
+  led c k rest b b' F F' p h l e r f = from r (subst (λ x. Finds_at x b' F' r) p f)
     where
-      from : (r : Option (Found V)) → Finds_at (moved c at) b' F' r → Finds_at c b F r
-      from None f = λ n m. e n m ∙ f n (omega (arith, fewer c.tokens.now c.at at h))
-      from (Some y) f = (f.0, (λ n m. e n m ∙ f.1 n (omega (arith, fewer c.tokens.now c.at at h))), f.2, omega (arith, f.3))
+      from : (r : Option (Found V)) → Finds_at (moved c rest) b' F' r → Finds_at c b F r
+      from None f = λ n m. e n m ∙ f n (omega (arith, h))
+      from (Some y) f = (f.0, (λ n m. e n m ∙ f.1 n (omega (arith, h))), f.2, omega (arith, h, f.3))
 
   -- a tight formula, by its first token
-  pub tight-from : (R : Rules X) (c k : Cursor) (t : Tok) → k ≡ moved c (c.at + 1) → ahead c ≡ t ∷ ahead (moved c (c.at + 1)) → (r : Option (Found V)) →
+  pub tight-from : (R : Rules X) (c k : Cursor) (t : Tok) (rest : Bor (List Token)) → k ≡ moved c rest → ahead c ≡ t ∷ unread rest → (r : Option (Found V)) →
       Finds_at k 3 (λ n ts. R.tightly (read R n) (t ∷ ts)) r → Finds_at c 1 (λ n. read R n Tight) r
-  tight-from R c k t p e r f = from r (subst (λ x. Finds_at x 3 (λ n ts. R.tightly (read R n) (t ∷ ts)) r) p f)
+  tight-from R c k t rest p e r f = from r (subst (λ x. Finds_at x 3 (λ n ts. R.tightly (read R n) (t ∷ ts)) r) p f)
     where
-      from : (r : Option (Found V)) → Finds_at (moved c (c.at + 1)) 3 (λ n ts. R.tightly (read R n) (t ∷ ts)) r → Finds_at c 1 (λ n. read R n Tight) r
+      from : (r : Option (Found V)) → Finds_at (moved c rest) 3 (λ n ts. R.tightly (read R n) (t ∷ ts)) r → Finds_at c 1 (λ n. read R n Tight) r
       from None f = tight-by R (ahead c) None (λ n h. ap (R.tightly (read R n)) e ∙ f n (omega (arith, ap length e)))
       from (Some y) f =
-          (f.0, tight-by R (ahead c) _ (λ n h. ap (R.tightly (read R n)) e ∙ f.1 n (omega (arith, ap length e))), f.2, omega (arith, f.3))
+          (f.0, tight-by R (ahead c) _ (λ n h. ap (R.tightly (read R n)) e ∙ f.1 n (omega (arith, ap length e))), f.2, omega (arith, ap length e, f.3))

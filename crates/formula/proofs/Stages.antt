@@ -51,7 +51,7 @@ past_sign_out s [] rest e = no_way _ e
 past_sign_out s (name w ∷ ts) rest e = no_way _ e
 past_sign_out s (mark m ∷ ts) rest e = let h = cond_out (is s m) e in ap (λ x. mark x ∷ ts) (is_out s m h.0) ∙ ap (λ x. mark (signed s) ∷ x) h.1
 
-past_shorter : (s : Sign) (ts rest : List Tok) → past_sign s ts ≡ Some rest → length ts ≡ suc (length rest)
+pub past_shorter : (s : Sign) (ts rest : List Tok) → past_sign s ts ≡ Some rest → length ts ≡ suc (length rest)
 past_shorter s ts rest e = ap length (past_sign_out s ts rest e)
 
 -- a step that was taken: what it went on from

@@ -2,15 +2,13 @@
 use Rattle.std.specs.Prelude.{◌≡◌, ℕ, List, Option}
 use Rattle.base.specs.Labels.{listed}
 use Rattle.formula.specs.declared.built.Found.{Found}
-use Rattle.formula.specs.declared.built.Level.{Level}
-use Rattle.formula.specs.declared.built.Level.TheVariants as level
-use Rattle.formula.specs.declared.built.Part.{Part}
+use Rattle.formula.specs.declared.node.Part.{Part}
 use Rattle.formula.specs.declared.cursor.Cursor.{Cursor}
 use Rattle.formula.specs.declared.nodes.Draft.{Draft}
 use Rattle.formula.specs.Choosing.{IsSet}
 use Rattle.formula.specs.Finding.{Finds}
 use Rattle.formula.specs.Laying.{drafted, top, lay}
-use Rattle.formula.specs.Reading.{Stage, OrLevel, AndLevel, Tight, Reader, Got, read, rank, formula_rules}
+use Rattle.formula.specs.Reading.{Stage, Reader, Got, read, rank, formula_rules}
 use Rattle.formula.specs.Tokens.{Tok}
 use Rattle.formula.specs.Trees.{Acts, Tree}
 
@@ -27,12 +25,7 @@ BuildsBy c before after F r = Finds (Laid (listed c.labels.now) before after) c 
 
 -- a part: the actions of its action formula too
 abbrev pub LaidPart : List (List ℕ) → Draft → Draft → Acts × Tree → Part → Type 0
-LaidPart names before after p y = Laid names before after p.1 y.root × IsSet names p.0 y.actions
+LaidPart names before after p y = Laid names before after p.1 y.child × IsSet names p.0 y.actions
 
 abbrev pub BuildsPart : Cursor → Draft → Draft → (Reader Tree → List Tok → Got (Acts × Tree)) → Option (Found Part) → Type 0
 BuildsPart c before after F r = Finds (LaidPart (listed c.labels.now) before after) c 3 (λ n. F (read formula_rules n)) r
-
-abbrev pub stage : {X : Type 0} → Level → Stage X
-stage level.Or = OrLevel
-stage level.And = AndLevel
-stage level.Tight = Tight

@@ -7,6 +7,7 @@ pub mod Finding
 pub mod Formulas
 pub mod Grammar
 pub mod Laying
+pub mod Levels
 pub mod Places
 pub mod Reading
 pub mod Texts

@@ -1,38 +1,47 @@
--- What stands at a place of the tokens.
-use Rattle.std.specs.Prelude.{◌≡◌, ℕ, ◌+◌, ◌<◌, List, [], ◌∷◌, map, length, drop, Some, None, Option}
+-- What is left of the tokens of a text, and what stands first in it.
+use Rattle.std.specs.Prelude.{◌≡◌, ◌+◌, List, [], ◌∷◌, map, length, Some, None, Option}
+use Rattle.std.specs.Borrow.{Bor}
+use Rattle.formula.specs.declared.built.Found.{Found}
 use Rattle.formula.specs.declared.cursor.Cursor.{Cursor}
 use Rattle.formula.specs.declared.token.Token.{Token}
 use Rattle.formula.specs.declared.mark.Link.{Link}
 use Rattle.formula.specs.declared.mark.Mark.{Mark}
+use Rattle.formula.specs.declared.mark.Sign.{Sign}
+use Rattle.formula.specs.Reading.{past_sign}
 use Rattle.formula.specs.Tokens.{Tok, mark, name, tok}
 
-abbrev pub unread : List Token → ℕ → List Tok
-unread tokens at = map tok (drop at tokens)
+abbrev pub unread : Bor (List Token) → List Tok
+unread rest = map tok rest.now
 
 -- what is yet to be read
 abbrev pub ahead : Cursor → List Tok
-ahead c = unread c.tokens.now c.at
+ahead c = unread c.tokens
 
--- the same text, at another place
-abbrev pub moved : Cursor → ℕ → Cursor
-moved c at = record { tokens = c.tokens; labels = c.labels; at = at }
+-- the same labels, where these tokens are left
+abbrev pub moved : Cursor → Bor (List Token) → Cursor
+moved c rest = record { tokens = rest; labels = c.labels }
 
--- what follows one token, as a place
-abbrev pub Past : Cursor → Option (List Tok) → Option ℕ → Type 0
-Past c o None = o ≡ None
-Past c o (Some end) = (o ≡ Some (ahead (moved c end))) × (end ≡ c.at + 1) × (c.at < length c.tokens.now)
+-- what follows one token
+abbrev pub Past : List Tok → Option (List Tok) → Option (Bor (List Token)) → Type 0
+Past ts o None = o ≡ None
+Past ts o (Some rest) = (o ≡ Some (unread rest)) × (length ts ≡ length (unread rest) + 1)
 
--- the sign or word that stands first; none at a name
+-- what was read, as far as a sign that follows it
+abbrev pub Closed : {V : Type 0} → Sign → Found V → Option (Found V) → Type 0
+Closed s y None = past_sign s (unread y.rest) ≡ None
+Closed s y (Some z) = (past_sign s (unread y.rest) ≡ Some (unread z.rest)) × (length (unread y.rest) ≡ length (unread z.rest) + 1) × (z.value ≡ y.value)
+
+-- the sign or word that stands first, and what follows it; none at a name
 abbrev pub first : List Tok → Option Mark
 first [] = None
 first (name w ∷ ts) = None
 first (mark m ∷ ts) = Some m
 
-abbrev pub Marked : Cursor → Option Mark → Option Mark → Type 0
-Marked c o None = o ≡ None
-Marked c o (Some m) = (ahead c ≡ mark m ∷ ahead (moved c (c.at + 1))) × (c.at < length c.tokens.now)
+abbrev pub Marked : List Tok → Option (Mark × Bor (List Token)) → Type 0
+Marked ts None = first ts ≡ None
+Marked ts (Some p) = (ts ≡ mark p.0 ∷ unread p.1) × (length ts ≡ length (unread p.1) + 1)
 
 -- the word between two parts, and what follows it
-abbrev pub Linked : Cursor → Option (Link × List Tok) → Option Link → Type 0
-Linked c o None = o ≡ None
-Linked c o (Some l) = (o ≡ Some (l, ahead (moved c (c.at + 1)))) × (c.at < length c.tokens.now)
+abbrev pub Linked : List Tok → Option (Link × List Tok) → Option (Link × Bor (List Token)) → Type 0
+Linked ts o None = o ≡ None
+Linked ts o (Some p) = (o ≡ Some (p.0, unread p.1)) × (length ts ≡ length (unread p.1) + 1)

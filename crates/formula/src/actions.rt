@@ -1,20 +1,33 @@
-ghost use Rattle.std.specs.Prelude.{◌≡◌, ◌≤◌, Some};
+ghost use Rattle.std.specs.Prelude.{◌≡◌, ◌≤◌, length, ℕ, Some};
 ghost use Rattle.base.specs.Listing.{spelled};
 ghost use Rattle.base.specs.Labels.{listed};
-ghost use Rattle.formula.specs.Building.{stage};
+ghost use Rattle.base.specs.Sets.{holds};
 ghost use Rattle.formula.specs.Choosing.{IsSet, ChoosesBy, Chooses};
-ghost use Rattle.formula.specs.Places.{moved};
-ghost use Rattle.formula.specs.Reading.{OrLevel, AndLevel, Tight, then, in_group, in_braces};
+ghost use Rattle.formula.specs.Levels.{operand, stage, in_both};
+ghost use Rattle.formula.specs.Places.{unread, ahead, moved};
+ghost use Rattle.formula.specs.Reading.{OrLevel, Tight, then, in_group, in_braces};
 ghost use Rattle.formula.specs.Trees.{named, complement};
 
-use crate::built::{Found, Level};
+use crate::built::{Found, Joint, Level};
 use crate::cursor::Cursor;
 use crate::mark::{Mark, Sign};
 use crate::token::Token;
 use base::action_set::ActionSet;
 use base::name::Name;
 
-impl Cursor<'_> {
+impl Joint {
+    // The actions that two sets have together, or those that both have.
+    fn set(self, left: ActionSet, right: ActionSet) -> ActionSet
+        ensures { (a : ℕ) → holds result a ≡ in_both self (holds left a) (holds right a) }
+    {
+        match self {
+            Joint::Or => left.union(right),
+            Joint::And => left.intersection(right),
+        }
+    }
+}
+
+impl<'a> Cursor<'a> {
     // The action of a name. A name that is not listed has none; such texts are refused elsewhere.
     fn named(&self, name: Name) -> ActionSet
         ensures { IsSet (listed self.now.labels.now) (named (spelled name)) result }
@@ -26,60 +39,50 @@ impl Cursor<'_> {
 
     // The actions that an action formula stands for, as far as a level reaches.
     #[cycle(braces)]
-    fn actions(&self, level: Level) -> Option<Found<ActionSet>>
+    fn actions(&self, level: Level) -> Option<Found<'a, ActionSet>>
         ensures { Chooses self.now (stage level) result }
     {
-        match level {
-            Level::Or => self.chain(
-                Sign::Or,
-                &mut (),
-                |at: usize, _: &mut ()| -> Option<Found<ActionSet>>
-                    requires { self.now.at ≤ at }
-                    ensures { Chooses (moved self.entry.now at) AndLevel result }
-                { self.moved_to(at).actions(Level::And) },
-                |left: ActionSet, right: ActionSet, _: &mut ()| left.union(right),
-            ),
-            Level::And => self.chain(
-                Sign::And,
-                &mut (),
-                |at: usize, _: &mut ()| -> Option<Found<ActionSet>>
-                    requires { self.now.at ≤ at }
-                    ensures { Chooses (moved self.entry.now at) Tight result }
-                { self.moved_to(at).actions(Level::Tight) },
-                |left: ActionSet, right: ActionSet, _: &mut ()| left.intersection(right),
-            ),
-            Level::Tight => self.tight_actions(),
-        }
+        let Level::Chain(joint) = level else {
+            return self.tight_actions();
+        };
+        self.chain(
+            joint.sign(),
+            &mut (),
+            |rest: &[Token], _: &mut ()| -> Option<Found<ActionSet>>
+                requires { length (unread rest) ≤ length (ahead self.now) }
+                ensures { Chooses (moved self.entry.now rest.entry) (stage (operand joint)) result }
+            { self.moved_to(rest).actions(joint.operand()) },
+            |left: ActionSet, right: ActionSet, _: &mut ()| joint.set(left, right),
+        )
     }
 
     // A word, a name, NOT or parentheses.
     #[cycle(braces)]
-    fn tight_actions(&self) -> Option<Found<ActionSet>>
+    fn tight_actions(&self) -> Option<Found<'a, ActionSet>>
         ensures { Chooses self.now Tight result }
     {
-        let token = self.peek()?;
-        let end = self.at + 1;
-        let rest = self.moved_to(end);
+        let (token, rest) = self.next()?;
+        let onward = self.moved_to(rest);
         match token {
             Token::Name(name) => Some(Found {
                 value: self.named(name),
-                end,
+                rest,
             }),
             Token::Mark(mark) => match mark {
                 Mark::True => Some(Found {
                     value: ActionSet::all(),
-                    end,
+                    rest,
                 }),
                 Mark::False => Some(Found {
                     value: ActionSet::none(),
-                    end,
+                    rest,
                 }),
                 Mark::Tau => Some(Found {
                     value: ActionSet::only(0),
-                    end,
+                    rest,
                 }),
-                Mark::Not => rest.other_actions(),
-                Mark::Sign(sign) => rest.grouped_actions(sign),
+                Mark::Not => onward.other_actions(),
+                Mark::Sign(sign) => onward.grouped_actions(sign),
                 Mark::Short(_) | Mark::Path(_) | Mark::Between(_) => None,
             },
         }
@@ -88,35 +91,33 @@ impl Cursor<'_> {
     // What follows NOT.
     // kept: NOT and parentheses stand in reader.rt too; one reader over a trait gets no proof, as parentheses lead back through the trait's method.
     #[cycle(braces)]
-    fn other_actions(&self) -> Option<Found<ActionSet>>
+    fn other_actions(&self) -> Option<Found<'a, ActionSet>>
         ensures { ChoosesBy self.now (λ r ts. then (r Tight ts) (λ c rest. Some (complement c, rest))) result }
     {
         let inner = self.actions(Level::Tight)?;
         Some(Found {
             value: inner.value.complement(),
-            end: inner.end,
+            rest: inner.rest,
         })
     }
 
     // What follows a sign that opens parentheses.
     #[cycle(braces)]
-    fn grouped_actions(&self, sign: Sign) -> Option<Found<ActionSet>>
+    fn grouped_actions(&self, sign: Sign) -> Option<Found<'a, ActionSet>>
         ensures { ChoosesBy self.now (λ r ts. in_group sign (r OrLevel ts)) result }
     {
         if sign != Sign::Open {
             return None;
         }
-        let inner = self.actions(Level::Or)?;
-        let end = self.moved_to(inner.end).after(Sign::Close)?;
-        Some(Found { end, ..inner })
+        let inner = self.actions(Level::Chain(Joint::Or))?;
+        self.closed(inner, Sign::Close)
     }
 
     // The action formula in braces, after the first of them.
-    pub(crate) fn braced(&self) -> Option<Found<ActionSet>>
+    pub(crate) fn braced(&self) -> Option<Found<'a, ActionSet>>
         ensures { ChoosesBy self.now (λ r ts. in_braces ts) result }
     {
-        let inner = self.actions(Level::Or)?;
-        let end = self.moved_to(inner.end).after(Sign::BraceClose)?;
-        Some(Found { end, ..inner })
+        let inner = self.actions(Level::Chain(Joint::Or))?;
+        self.closed(inner, Sign::BraceClose)
     }
 }

@@ -1,23 +1,49 @@
-use base::action_set::ActionSet;
+ghost use Rattle.std.specs.Prelude.{◌≡◌};
 
-// What was read, and the place after it.
+use crate::mark::Sign;
+use crate::token::Token;
+
+// What was read, and the tokens after it.
 #[derive(Clone, Copy)]
-pub struct Found<T> {
+pub struct Found<'a, T> {
     pub(crate) value: T,
-    pub(crate) end: usize,
+    pub(crate) rest: &'a [Token],
 }
 
-// A part that was written: its actions, and the number of its formula.
+// A word that joins what stands on both sides of it; AND binds closer than OR.
 #[derive(Clone, Copy)]
-pub struct Part {
-    pub(crate) actions: ActionSet,
-    pub(crate) root: usize,
-}
-
-// How much is read: a chain of OR, a chain of AND, or what binds closer than both.
-#[derive(Clone, Copy)]
-pub enum Level {
+pub enum Joint {
     Or,
     And,
+}
+
+// How much is read: a chain of what a word joins, or what binds closer than AND.
+#[derive(Clone, Copy)]
+pub enum Level {
+    Chain(Joint),
     Tight,
+}
+
+impl Joint {
+    ghost use Rattle.formula.specs.Levels.{sign_of, operand};
+
+    // The word, as it stands in a text.
+    pub(crate) fn sign(self) -> Sign
+        ensures { result ≡ sign_of self }
+    {
+        match self {
+            Joint::Or => Sign::Or,
+            Joint::And => Sign::And,
+        }
+    }
+
+    // How much is read for an operand.
+    pub(crate) fn operand(self) -> Level
+        ensures { result ≡ operand self }
+    {
+        match self {
+            Joint::Or => Level::Chain(Joint::And),
+            Joint::And => Level::Tight,
+        }
+    }
 }

@@ -1,76 +1,92 @@
-ghost use Rattle.std.specs.Prelude.{◌≡◌, ℕ, ◌+◌, ◌<◌, ◌≤◌, List, [], ◌∷◌, length, IfSome, MatchOption};
+ghost use Rattle.std.specs.Prelude.{◌≡◌, ◌+◌, ◌≤◌, List, [], ◌∷◌, length, MatchOption};
+ghost use Rattle.std.specs.Borrow.{Bor};
 ghost use Rattle.formula.specs.Chaining.{MayRead, MayJoin, OnlyOnward, Chain};
 ghost use Rattle.formula.specs.Grammar.{begins};
-ghost use Rattle.formula.specs.Places.{ahead, moved, first, Past, Marked, Linked};
+ghost use Rattle.formula.specs.Places.{unread, ahead, moved, Past, Closed, Marked, Linked};
 ghost use Rattle.formula.specs.Reading.{past_sign, link};
 ghost use Rattle.formula.specs.Tokens.{tok};
+ghost use Rattle.formula.specs.declared.token.Token.{Token};
 
 use crate::built::Found;
 use crate::mark::{Link, Mark, Sign};
 use crate::token::Token;
 use base::labels::Labels;
 
-// A place in the tokens of a text, and the labels by which its names are actions.
+// The tokens of a text that are left to read, and the labels by which its names are actions.
 #[derive(Clone, Copy)]
 pub struct Cursor<'a> {
     pub(crate) tokens: &'a [Token],
     pub(crate) labels: &'a Labels,
-    pub(crate) at: usize,
 }
 
 impl<'a> Cursor<'a> {
-    // The same text, at another place.
-    pub(crate) fn moved_to(&self, at: usize) -> Cursor<'a>
-        ensures { result ≡ moved self.now at }
+    // The same labels, where these tokens are left.
+    pub(crate) fn moved_to(&self, rest: &'a [Token]) -> Cursor<'a>
+        ensures { result ≡ moved self.now rest.entry }
     {
-        Cursor { at, ..*self }
-    }
-
-    // The token that stands here.
-    pub(crate) fn peek(&self) -> Option<Token>
-        ensures { MatchOption result (ahead self.now ≡ []) (λ t. (ahead self.now ≡ tok t ∷ ahead (moved self.now (self.now.at + 1))) × (self.now.at < length self.now.tokens.now)) }
-    {
-        self.tokens.get(self.at).copied()
-    }
-
-    // The sign or word that stands here; none at a name.
-    pub(crate) fn mark(&self) -> Option<Mark>
-        ensures { Marked self.now (first (ahead self.now)) result }
-    {
-        match self.peek()? {
-            Token::Mark(mark) => Some(mark),
-            Token::Name(_) => None,
+        Cursor {
+            tokens: rest,
+            ..*self
         }
     }
 
-    // The place after a sign, if it stands here.
-    pub(crate) fn after(&self, sign: Sign) -> Option<usize>
-        ensures { Past self.now (past_sign sign (ahead self.now)) result }
+    // The token that stands first, and what follows it.
+    pub(crate) fn next(&self) -> Option<(Token, &'a [Token])>
+        ensures { MatchOption result (ahead self.now ≡ []) (λ p. (ahead self.now ≡ tok p.0 ∷ unread p.1) × (length (ahead self.now) ≡ length (unread p.1) + 1)) }
+    {
+        let (token, rest) = self.tokens.split_first()?;
+        Some((*token, rest))
+    }
+
+    // The sign or word that stands first, and what follows it; none at a name.
+    pub(crate) fn mark(&self) -> Option<(Mark, &'a [Token])>
+        ensures { Marked (ahead self.now) result }
+    {
+        match self.next()? {
+            (Token::Mark(mark), rest) => Some((mark, rest)),
+            (Token::Name(_), _) => None,
+        }
+    }
+
+    // What follows a sign, if it stands first.
+    pub(crate) fn after(&self, sign: Sign) -> Option<&'a [Token]>
+        ensures { Past (ahead self.now) (past_sign sign (ahead self.now)) result }
     {
         match self.mark()? {
-            Mark::Sign(found) if found == sign => Some(self.at + 1),
+            (Mark::Sign(found), rest) if found == sign => Some(rest),
             _ => None,
         }
     }
 
-    // The word U or W that stands here.
-    pub(crate) fn link(&self) -> Option<Link>
-        ensures { Linked self.now (link (ahead self.now)) result }
+    // What was read, as far as a sign that closes it.
+    pub(crate) fn closed<T: Copy>(&self, inner: Found<'a, T>, sign: Sign) -> Option<Found<'a, T>>
+        ensures { Closed sign inner.entry result }
+    {
+        let rest = self.moved_to(inner.rest).after(sign)?;
+        Some(Found { rest, ..inner })
+    }
+
+    // The word U or W that stands first, and what follows it.
+    pub(crate) fn link(&self) -> Option<(Link, &'a [Token])>
+        ensures { Linked (ahead self.now) (link (ahead self.now)) result }
     {
         match self.mark()? {
-            Mark::Between(found) => Some(found),
+            (Mark::Between(found), rest) => Some((found, rest)),
             _ => None,
         }
     }
 
-    // Whether a formula can begin here.
+    // Whether a formula can begin with what is left.
     pub(crate) fn can_begin(&self) -> bool
         ensures { result ≡ begins (ahead self.now) }
     {
-        match self.mark() {
-            Some(Mark::Sign(sign)) => sign == Sign::Open,
-            Some(Mark::True | Mark::False | Mark::Not | Mark::Short(_) | Mark::Path(_)) => true,
-            Some(Mark::Tau | Mark::Between(_)) | None => false,
+        let Some((mark, _)) = self.mark() else {
+            return false;
+        };
+        match mark {
+            Mark::Sign(sign) => sign == Sign::Open,
+            Mark::True | Mark::False | Mark::Not | Mark::Short(_) | Mark::Path(_) => true,
+            Mark::Tau | Mark::Between(_) => false,
         }
     }
 
@@ -78,20 +94,20 @@ impl<'a> Cursor<'a> {
     pub(crate) fn chain<
         V: Copy,
         S,
-        F: Fn(usize, &mut S) -> Option<Found<V>>,
+        F: Fn(&'a [Token], &mut S) -> Option<Found<'a, V>>,
         J: Fn(V, V, &mut S) -> V,
-    >(&self, sign: Sign, state: &mut S, operand: F, join: J) -> Option<Found<V>>
-        requires reads { (i : ℕ) (s : _) → self.now.at ≤ i → F.pre operand i s }
+    >(&self, sign: Sign, state: &mut S, operand: F, join: J) -> Option<Found<'a, V>>
+        requires reads { (rest : Bor (List Token)) (s : _) → length (unread rest) ≤ length (ahead self.now) → F.pre operand rest s }
         requires onward { OnlyOnward F.Fn operand }
         requires joins { J.IsAlwaysCallable join }
-        ensures { Chain (MayRead F.Fn operand) (MayJoin J.Fn join) sign self.now.tokens.now self.now.at state.old result state.new }
+        ensures { Chain (MayRead F.Fn operand) (MayJoin J.Fn join) sign self.now.tokens state.old result state.new }
     {
-        let mut left = operand(self.at, state)?;
-        while let Some(next) = self.moved_to(left.end).after(sign) {
+        let mut left = operand(self.tokens, state)?;
+        while let Some(next) = self.moved_to(left.rest).after(sign) {
             let right = operand(next, state)?;
             left = Found {
                 value: join(left.value, right.value, state),
-                end: right.end,
+                rest: right.rest,
             };
         }
         Some(left)

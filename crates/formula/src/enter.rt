@@ -4,7 +4,7 @@ ghost use Rattle.formula.specs.Entering.{is_listed, all_listed, Whole, ChecksTok
 ghost use Rattle.formula.specs.Laying.{drafted, shapes};
 ghost use Rattle.formula.specs.Tokens.{tok};
 
-use crate::built::Level;
+use crate::built::{Joint, Level};
 use crate::cursor::Cursor;
 use crate::lexer::lex;
 use crate::nodes::{Draft, Entry, Nodes};
@@ -35,13 +35,9 @@ fn all_listed(tokens: &[Token], labels: &Labels) -> bool
 fn whole(tokens: &[Token], labels: &Labels, draft: &mut Draft) -> Option<usize>
     ensures { Whole (listed labels.now) (map tok tokens.now) (drafted draft.old) (drafted draft.new) result }
 {
-    let start = Cursor {
-        tokens,
-        labels,
-        at: 0,
-    };
-    let built = start.formula(Level::Or, draft)?;
-    if built.end < tokens.len() {
+    let start = Cursor { tokens, labels };
+    let built = start.formula(Level::Chain(Joint::Or), draft)?;
+    if !built.rest.is_empty() {
         return None;
     }
     Some(built.value)

@@ -1,9 +1,7 @@
-ghost use Rattle.std.specs.Prelude.{◌≡◌, ◌<◌, ◌≤◌, map, length, IfNone, IfSome, IfOk, IfErr, OnErr};
-ghost use Rattle.std.specs.List.{prefix_len};
+ghost use Rattle.std.specs.Prelude.{◌≡◌, ℕ, Bool, ◌<◌, ◌≤◌, map, length, IfNone, IfSome, IfOk, IfErr, OnErr};
 ghost use Rattle.std.specs.Iterator.{at_most};
-ghost use Rattle.base.specs.Names.{name_byte};
 ghost use Rattle.base.specs.declared.refusal.Refusal.TheVariants.{Grammar};
-ghost use Rattle.formula.specs.Tokens.{capital, sign, word, word_at, name_at, token_at, ended, front, Cuts, Steps, tok, tokens_of};
+ghost use Rattle.formula.specs.Tokens.{run, past, sign, word, word_at, name_at, token_at, ended, front, Cuts, Steps, tok, tokens_of};
 
 use crate::enter::MOST_BYTES;
 use crate::mark::{Link, Mark, Operator, Quantifier, Sign};
@@ -53,29 +51,19 @@ fn word_of(letters: &[u8]) -> Option<Mark>
     }
 }
 
-// How many capitals a text begins with.
-fn capitals(text: &[u8]) -> usize
-    ensures value { result ≡ prefix_len capital text.now }
-    ensures fits { result ≤ length text.now }
+// The longest run of bytes that belong, at the front of a text, and the text after it.
+fn run<F: Fn(u8) -> bool>(text: &[u8], belongs: F) -> (&[u8], &[u8])
+    requires { F.IsAlwaysCallable belongs }
+    ensures { (p : ℕ → Bool) → ((b : ℕ) (r : Bool) → F.post belongs b r → r ≡ p b) → (result.0.now ≡ run p text.now) × (result.1.now ≡ past p text.now) }
 {
-    text.iter()
-        .take_while(|byte| byte.is_ascii_uppercase())
-        .count()
-}
-
-// How many bytes a text begins with that may stand in a name.
-fn name_bytes(text: &[u8]) -> usize
-    ensures value { result ≡ prefix_len name_byte text.now }
-    ensures fits { result ≤ length text.now }
-{
-    text.iter().take_while(|byte| is_name_byte(**byte)).count()
+    text.split_at(text.iter().take_while(|byte| belongs(**byte)).count())
 }
 
 // The word that a text begins with, and the text after it.
 fn word_at(text: &[u8]) -> Result<(Token, &[u8]), Refusal>
     ensures { Cuts (word_at text.now) result }
 {
-    let (letters, rest) = text.split_at(capitals(text));
+    let (letters, rest) = run(text, |byte| byte.is_ascii_uppercase());
     let mark = word_of(letters).ok_or(Refusal::Grammar)?;
     Ok((Token::Mark(mark), rest))
 }
@@ -84,7 +72,7 @@ fn word_at(text: &[u8]) -> Result<(Token, &[u8]), Refusal>
 fn name_at(text: &[u8]) -> Result<(Token, &[u8]), Refusal>
     ensures { Cuts (name_at text.now) result }
 {
-    let (name, rest) = text.split_at(name_bytes(text));
+    let (name, rest) = run(text, is_name_byte);
     if !is_name(name) {
         return Err(Refusal::Grammar);
     }

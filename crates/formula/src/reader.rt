@@ -1,149 +1,150 @@
-ghost use Rattle.std.specs.Prelude.{◌≡◌, ◌≤◌, Some, None};
+ghost use Rattle.std.specs.Prelude.{◌≡◌, ◌≤◌, length, Some, None};
 ghost use Rattle.base.specs.Labels.{listed};
-ghost use Rattle.formula.specs.Building.{BuildsBy, Builds, BuildsPart, stage};
+ghost use Rattle.formula.specs.Building.{BuildsBy, Builds, BuildsPart};
 ghost use Rattle.formula.specs.Choosing.{IsSet};
-ghost use Rattle.formula.specs.Places.{moved};
-ghost use Rattle.formula.specs.Reading.{OrLevel, AndLevel, Tight, then, if_there, past_sign, in_group, with_formula, after_braces, part, two_parts};
+ghost use Rattle.formula.specs.Laying.{shape};
+ghost use Rattle.formula.specs.Levels.{operand, stage, node_of};
+ghost use Rattle.formula.specs.Places.{unread, ahead, moved};
+ghost use Rattle.formula.specs.Reading.{OrLevel, Tight, then, if_there, past_sign, in_group, with_formula, after_braces, part, two_parts};
 ghost use Rattle.formula.specs.Trees.{Acts, NOT, short};
 ghost use Rattle.formula.specs.declared.mark.Sign.TheVariants.{BracketOpen};
 
-use crate::built::{Found, Level, Part};
+use crate::built::{Found, Joint, Level};
 use crate::cursor::Cursor;
 use crate::mark::{Mark, Operator, Quantifier, Sign};
-use crate::node::Node;
+use crate::node::{Node, Part};
 use crate::nodes::Draft;
+use crate::token::Token;
 use base::action_set::ActionSet;
 
-impl Cursor<'_> {
+impl Joint {
+    // A node over two others.
+    fn node(self, left: usize, right: usize) -> Node
+        ensures { shape result ≡ node_of self left right }
+    {
+        match self {
+            Joint::Or => Node::Or(left, right),
+            Joint::And => Node::And(left, right),
+        }
+    }
+}
+
+impl<'a> Cursor<'a> {
     // Writes a formula, as far as a level reaches.
     #[cycle(formulas)]
-    pub(crate) fn formula(&self, level: Level, draft: &mut Draft) -> Option<Found<usize>>
+    pub(crate) fn formula(&self, level: Level, draft: &mut Draft) -> Option<Found<'a, usize>>
         ensures { Builds self.now draft.old draft.new (stage level) result }
     {
-        match level {
-            Level::Or => self.chain(
-                Sign::Or,
-                draft,
-                |at: usize, draft: &mut Draft| -> Option<Found<usize>>
-                    requires { self.now.at ≤ at }
-                    ensures { Builds (moved self.entry.now at) draft.entry.now draft.exit.now AndLevel result }
-                { self.moved_to(at).formula(Level::And, draft) },
-                |left: usize, right: usize, draft: &mut Draft| draft.put(Node::Or(left, right)),
-            ),
-            Level::And => self.chain(
-                Sign::And,
-                draft,
-                |at: usize, draft: &mut Draft| -> Option<Found<usize>>
-                    requires { self.now.at ≤ at }
-                    ensures { Builds (moved self.entry.now at) draft.entry.now draft.exit.now Tight result }
-                { self.moved_to(at).formula(Level::Tight, draft) },
-                |left: usize, right: usize, draft: &mut Draft| draft.put(Node::And(left, right)),
-            ),
-            Level::Tight => self.tight(draft),
-        }
+        let Level::Chain(joint) = level else {
+            return self.tight(draft);
+        };
+        self.chain(
+            joint.sign(),
+            draft,
+            |rest: &[Token], draft: &mut Draft| -> Option<Found<usize>>
+                requires { length (unread rest) ≤ length (ahead self.now) }
+                ensures { Builds (moved self.entry.now rest.entry) draft.entry.now draft.exit.now (stage (operand joint)) result }
+            { self.moved_to(rest).formula(joint.operand(), draft) },
+            |left: usize, right: usize, draft: &mut Draft| draft.put(joint.node(left, right)),
+        )
     }
 
     // A word, NOT, parentheses or an operator.
     #[cycle(formulas)]
-    fn tight(&self, draft: &mut Draft) -> Option<Found<usize>>
+    fn tight(&self, draft: &mut Draft) -> Option<Found<'a, usize>>
         ensures { Builds self.now draft.old draft.new Tight result }
     {
-        let mark = self.mark()?;
-        let end = self.at + 1;
-        let rest = self.moved_to(end);
+        let (mark, rest) = self.mark()?;
+        let onward = self.moved_to(rest);
         match mark {
             Mark::True => Some(Found {
                 value: draft.put(Node::True),
-                end,
+                rest,
             }),
             Mark::False => Some(Found {
                 value: draft.put(Node::False),
-                end,
+                rest,
             }),
-            Mark::Not => rest.negated(draft),
-            Mark::Sign(sign) => rest.grouped(sign, draft),
-            Mark::Short(operator) => rest.one_part(operator, draft),
-            Mark::Path(quantifier) => rest.two_parts(quantifier, draft),
+            Mark::Not => onward.negated(draft),
+            Mark::Sign(sign) => onward.grouped(sign, draft),
+            Mark::Short(operator) => onward.one_part(operator, draft),
+            Mark::Path(quantifier) => onward.two_parts(quantifier, draft),
             Mark::Tau | Mark::Between(_) => None,
         }
     }
 
     // What follows NOT.
     #[cycle(formulas)]
-    fn negated(&self, draft: &mut Draft) -> Option<Found<usize>>
+    fn negated(&self, draft: &mut Draft) -> Option<Found<'a, usize>>
         ensures { BuildsBy self.now draft.old draft.new (λ r ts. then (r Tight ts) (λ t rest. Some (NOT t, rest))) result }
     {
         let inner = self.formula(Level::Tight, draft)?;
         Some(Found {
             value: draft.put(Node::Not(inner.value)),
-            end: inner.end,
+            rest: inner.rest,
         })
     }
 
     // What follows a sign that opens parentheses.
     #[cycle(formulas)]
-    fn grouped(&self, sign: Sign, draft: &mut Draft) -> Option<Found<usize>>
+    fn grouped(&self, sign: Sign, draft: &mut Draft) -> Option<Found<'a, usize>>
         ensures { BuildsBy self.now draft.old draft.new (λ r ts. in_group sign (r OrLevel ts)) result }
     {
         if sign != Sign::Open {
             return None;
         }
-        let inner = self.formula(Level::Or, draft)?;
-        let end = self.moved_to(inner.end).after(Sign::Close)?;
-        Some(Found { end, ..inner })
+        let inner = self.formula(Level::Chain(Joint::Or), draft)?;
+        self.closed(inner, Sign::Close)
     }
 
     // What follows a two-letter operator.
     #[cycle(formulas)]
-    fn one_part(&self, operator: Operator, draft: &mut Draft) -> Option<Found<usize>>
+    fn one_part(&self, operator: Operator, draft: &mut Draft) -> Option<Found<'a, usize>>
         ensures { BuildsBy self.now draft.old draft.new (λ r ts. then (part (r Tight) ts) (λ p rest. Some (short operator p.0 p.1, rest))) result }
     {
         let inner = self.part(Level::Tight, draft)?;
         let node = Node::Short {
             operator,
-            actions: inner.value.actions,
-            child: inner.value.root,
+            part: inner.value,
         };
         Some(Found {
             value: draft.put(node),
-            end: inner.end,
+            rest: inner.rest,
         })
     }
 
     // What follows E or A: two parts in brackets, with U or W between them.
     #[cycle(formulas)]
-    fn two_parts(&self, quantifier: Quantifier, draft: &mut Draft) -> Option<Found<usize>>
+    fn two_parts(&self, quantifier: Quantifier, draft: &mut Draft) -> Option<Found<'a, usize>>
         ensures { BuildsBy self.now draft.old draft.new (λ r ts. if_there (past_sign BracketOpen ts) (two_parts (r OrLevel) quantifier) None) result }
     {
         let inside = self.after(Sign::BracketOpen)?;
-        let first = self.moved_to(inside).part(Level::Or, draft)?;
-        let link = self.moved_to(first.end).link()?;
-        let second = self.moved_to(first.end + 1).part(Level::Or, draft)?;
-        let end = self.moved_to(second.end).after(Sign::BracketClose)?;
+        let first = self.moved_to(inside).part(Level::Chain(Joint::Or), draft)?;
+        let (link, rest) = self.moved_to(first.rest).link()?;
+        let second = self.moved_to(rest).part(Level::Chain(Joint::Or), draft)?;
+        let second = self.closed(second, Sign::BracketClose)?;
         let node = Node::Path {
             quantifier,
             link,
-            first: first.value.actions,
-            left: first.value.root,
-            second: second.value.actions,
-            right: second.value.root,
+            first: first.value,
+            second: second.value,
         };
         Some(Found {
             value: draft.put(node),
-            end,
+            rest: second.rest,
         })
     }
 
     // A part: braces, a formula, or both.
     #[cycle(formulas)]
-    fn part(&self, level: Level, draft: &mut Draft) -> Option<Found<Part>>
+    fn part(&self, level: Level, draft: &mut Draft) -> Option<Found<'a, Part>>
         ensures { BuildsPart self.now draft.old draft.new (λ r. part (r (stage level))) result }
     {
         let Some(inside) = self.after(Sign::BraceOpen) else {
             return self.with_formula(ActionSet::all(), level, draft);
         };
         let braces = self.moved_to(inside).braced()?;
-        self.moved_to(braces.end)
+        self.moved_to(braces.rest)
             .after_braces(braces.value, level, draft)
     }
 
@@ -154,16 +155,16 @@ impl Cursor<'_> {
         actions: ActionSet,
         level: Level,
         draft: &mut Draft,
-    ) -> Option<Found<Part>>
+    ) -> Option<Found<'a, Part>>
         ensures { (c : Acts) → IsSet (listed self.now.labels.now) c actions → BuildsPart self.now draft.old draft.new (λ r. after_braces (r (stage level)) c) result }
     {
         if self.can_begin() {
             return self.with_formula(actions, level, draft);
         }
-        let root = draft.put(Node::True);
+        let child = draft.put(Node::True);
         Some(Found {
-            value: Part { actions, root },
-            end: self.at,
+            value: Part { actions, child },
+            rest: self.tokens,
         })
     }
 
@@ -174,16 +175,16 @@ impl Cursor<'_> {
         actions: ActionSet,
         level: Level,
         draft: &mut Draft,
-    ) -> Option<Found<Part>>
+    ) -> Option<Found<'a, Part>>
         ensures { (c : Acts) → IsSet (listed self.now.labels.now) c actions → BuildsPart self.now draft.old draft.new (λ r. with_formula (r (stage level)) c) result }
     {
         let inner = self.formula(level, draft)?;
         Some(Found {
             value: Part {
                 actions,
-                root: inner.value,
+                child: inner.value,
             },
-            end: inner.end,
+            rest: inner.rest,
         })
     }
 }

@@ -1,30 +1,23 @@
-use Rattle.std.proofs.Common.{of_calls, ◌+◌, ◌∷◌, Some, None, refl, ap, ◌∙◌, arith}
+use Rattle.std.proofs.Common.{of_calls, ◌∷◌, Some, None, refl, ap, ◌∙◌, arith}
 use Rattle.base.specs.Labels.{listed}
 use Rattle.base.specs.Listing.{spelled}
 use Rattle.formula.specs.declared.mark.Mark.TheVariants.{True, False, Tau, Not, Sign as signed}
 use Rattle.formula.specs.Choosing.{IsSet}
-use Rattle.formula.specs.Places.{ahead, moved}
+use Rattle.formula.specs.Places.{unread, ahead}
 use Rattle.formula.specs.Reading.{Tight, then, read, action_rules}
 use Rattle.formula.specs.Tokens.{name, tok}
 use Rattle.formula.specs.Trees.{all, none, silent, named, complement}
 use Rattle.formula.proofs.Choices as choices
-use Rattle.formula.proofs.Findings.{or_chain, and-chain, tight-from}
+use Rattle.formula.proofs.Findings.{level_chain, tight-from}
 use Rattle.formula.proofs.Stages.{tight-by}
 use Rattle.formula.proofs.cursor.+braces.Goals as goal
 
-pub Cursor::actions-returns-in-Or : goal.Cursor::actions-returns-in-Or
-Cursor::actions-returns-in-Or t c =
-    let names = listed c.args.self.now.labels.now in
-    rw c.in-Or.is
-    (or_chain action_rules c.args.self.now (λ _ _ x y. IsSet names x y) _ _ (λ at s r s' o. o.3)
-    (λ x y s t u u' v w z h k j. choices.united names x y v w z h k (search of_calls)) _ _ _ c.chain.ensures)
-
-pub Cursor::actions-returns-in-And : goal.Cursor::actions-returns-in-And
-Cursor::actions-returns-in-And t c =
-    let names = listed c.args.self.now.labels.now in
-    rw c.in-And.is
-    (and-chain action_rules c.args.self.now (λ _ _ x y. IsSet names x y) _ _ (λ at s r s' o. o.3)
-    (λ x y s t u u' v w z h k j. choices.common names x y v w z h k (search of_calls)) _ _ _ c.chain-in-And.ensures)
+pub Cursor::actions-returns : goal.Cursor::actions-returns
+Cursor::actions-returns t c =
+    let names = listed c.args.self.now.labels.now in let j = c.in-Chain.joint in
+    rw c.in-Chain.is
+    (level_chain action_rules c.args.self.now (λ _ _ x y. IsSet names x y) _ _ j _ c.sign.ensures (λ at s r s' o. o.3)
+    (λ x y s t u u' v w z h k i. choices.joined names j x y v w z h k (search of_calls)) _ _ _ c.chain.ensures)
 
 pub Cursor::other_actions-returns : goal.Cursor::other_actions-returns
 Cursor::other_actions-returns t c =
@@ -43,33 +36,33 @@ Cursor::tight_actions-returns-in_err-token t c =
 pub Cursor::tight_actions-returns-in-Name : goal.Cursor::tight_actions-returns-in-Name
 Cursor::tight_actions-returns-in-Name t c =
     let s = c.args.self.now in let w = spelled c.in-Name.name in
-    let e = c.in_ok-token.ensures.0 ∙ ap (λ x. tok x ∷ ahead (moved s (s.at + 1))) c.in-Name.is in
-    tight-from IsSet action_rules s _ (name w) refl e (Some (record { value = c.named.result; end = s.at + 1 }))
+    let e = c.in_ok-token.ensures.0 ∙ ap (λ x. tok x ∷ unread c.in_ok-token.rest) c.in-Name.is in
+    tight-from IsSet action_rules s _ (name w) c.in_ok-token.rest refl e (Some (record { value = c.named.result; rest = c.in_ok-token.rest }))
     (named w, (λ n h. refl), c.named.ensures, omega arith)
 
 pub Cursor::tight_actions-returns-in-True : goal.Cursor::tight_actions-returns-in-True
 Cursor::tight_actions-returns-in-True t c =
-    choices.by_mark c.args.self.now _ _ c.in-Mark.mark True c.in_ok-token.ensures.0 c.in-Mark.is c.in-True.is refl (Some (record { value = c.all.result; end = c.args.self.now.at + 1 }))
+    choices.by_mark c.args.self.now _ _ c.in-Mark.mark True c.in_ok-token.rest c.in_ok-token.ensures.0 c.in-Mark.is c.in-True.is refl (Some (record { value = c.all.result; rest = c.in_ok-token.rest }))
     (all, (λ n h. refl), c.all.ensures, omega arith)
 
 pub Cursor::tight_actions-returns-in-False : goal.Cursor::tight_actions-returns-in-False
 Cursor::tight_actions-returns-in-False t c =
-    choices.by_mark c.args.self.now _ _ c.in-Mark.mark False c.in_ok-token.ensures.0 c.in-Mark.is c.in-False.is refl (Some (record { value = c.none.result; end = c.args.self.now.at + 1 }))
+    choices.by_mark c.args.self.now _ _ c.in-Mark.mark False c.in_ok-token.rest c.in_ok-token.ensures.0 c.in-Mark.is c.in-False.is refl (Some (record { value = c.none.result; rest = c.in_ok-token.rest }))
     (none, (λ n h. refl), c.none.ensures, omega arith)
 
 pub Cursor::tight_actions-returns-in-Tau : goal.Cursor::tight_actions-returns-in-Tau
 Cursor::tight_actions-returns-in-Tau t c =
-    choices.by_mark c.args.self.now _ _ c.in-Mark.mark Tau c.in_ok-token.ensures.0 c.in-Mark.is c.in-Tau.is refl (Some (record { value = c.only.result; end = c.args.self.now.at + 1 }))
+    choices.by_mark c.args.self.now _ _ c.in-Mark.mark Tau c.in_ok-token.rest c.in_ok-token.ensures.0 c.in-Mark.is c.in-Tau.is refl (Some (record { value = c.only.result; rest = c.in_ok-token.rest }))
     (silent, (λ n h. refl), c.only.ensures, omega arith)
 
 pub Cursor::tight_actions-returns-in-Not : goal.Cursor::tight_actions-returns-in-Not
 Cursor::tight_actions-returns-in-Not t c =
-    choices.by_mark c.args.self.now _ _ c.in-Mark.mark Not c.in_ok-token.ensures.0 c.in-Mark.is c.in-Not.is c.moved_to-rest.ensures c.other_actions.result c.other_actions.ensures
+    choices.by_mark c.args.self.now _ _ c.in-Mark.mark Not c.in_ok-token.rest c.in_ok-token.ensures.0 c.in-Mark.is c.in-Not.is c.moved_to-onward.ensures c.other_actions.result c.other_actions.ensures
 
 pub Cursor::tight_actions-returns-in-Sign : goal.Cursor::tight_actions-returns-in-Sign
 Cursor::tight_actions-returns-in-Sign t c =
-    choices.by_mark c.args.self.now _ _ c.in-Mark.mark (signed c.in-Sign.sign) c.in_ok-token.ensures.0 c.in-Mark.is c.in-Sign.is c.moved_to-rest.ensures c.grouped_actions.result c.grouped_actions.ensures
+    choices.by_mark c.args.self.now _ _ c.in-Mark.mark (signed c.in-Sign.sign) c.in_ok-token.rest c.in_ok-token.ensures.0 c.in-Mark.is c.in-Sign.is c.moved_to-onward.ensures c.grouped_actions.result c.grouped_actions.ensures
 
 pub Cursor::tight_actions-returns-in-Short : goal.Cursor::tight_actions-returns-in-Short
 Cursor::tight_actions-returns-in-Short t c =
-    choices.by_mark c.args.self.now _ _ c.in-Mark.mark c.in-Mark.mark c.in_ok-token.ensures.0 c.in-Mark.is refl refl None (λ n h. choices.no_action (read action_rules n) c.in-Mark.mark _ c.in-Short.is)
+    choices.by_mark c.args.self.now _ _ c.in-Mark.mark c.in-Mark.mark c.in_ok-token.rest c.in_ok-token.ensures.0 c.in-Mark.is refl refl None (λ n h. choices.no_action (read action_rules n) c.in-Mark.mark _ c.in-Short.is)

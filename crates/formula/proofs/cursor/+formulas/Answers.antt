@@ -1,35 +1,26 @@
-use Rattle.std.proofs.Common.{of_calls, ◌≡◌, ◌+◌, Some, None, sym, refl, ap, subst, arith}
+use Rattle.std.proofs.Common.{of_calls, ◌≡◌, Some, None, sym, refl, ap, subst, arith}
 use Rattle.base.specs.Labels.{listed}
 use Rattle.formula.specs.declared.mark.Mark.TheVariants.{True, False, Not, Short, Path, Sign as signed}
-use Rattle.formula.specs.declared.mark.Sign.TheVariants.{BracketClose}
 use Rattle.formula.specs.Building.{Laid, BuildsPart}
-use Rattle.formula.specs.Laying.{drafted, push, top, not_node, and_node, or_node}
+use Rattle.formula.specs.Laying.{drafted, push, top, not_node}
+use Rattle.formula.specs.Levels.{node_of}
 use Rattle.formula.specs.Places.{ahead, Linked}
 use Rattle.formula.specs.Reading.{OrLevel, Tight, then, read, part, link, formula_rules}
 use Rattle.formula.specs.Trees.{TRUE, FALSE, NOT, short, path, all}
 use Rattle.formula.proofs.Buildings as buildings
-use Rattle.formula.proofs.Findings.{or_chain, and-chain, past_there, none_found}
+use Rattle.formula.proofs.Findings.{level_chain, none_found}
 use Rattle.formula.proofs.Layings as layings
 use Rattle.formula.proofs.Stages.{tight-by}
 use Rattle.formula.proofs.cursor.+formulas.Goals as goal
 
-pub Cursor::formula-returns-in-Or : goal.Cursor::formula-returns-in-Or
-Cursor::formula-returns-in-Or t c =
-    let names = listed c.args.self.now.labels.now in
-    rw c.in-Or.is
-    (or_chain formula_rules c.args.self.now (Laid names) _ _ (λ at s r s' o. rw (sym o.2, sym o.4) o.3)
-    (λ x y s t u u' v w z h k j.
-    let e : (drafted j.1.now ≡ push (drafted j.0.now) (or_node v w)) × (z ≡ top (drafted j.1.now)) = search of_calls in
-    buildings.joined names or_node x y s t u u' j.0.now j.1.now v w z h k j.2 j.4 e.0 e.1) _ _ _ c.chain.ensures)
-
-pub Cursor::formula-returns-in-And : goal.Cursor::formula-returns-in-And
-Cursor::formula-returns-in-And t c =
-    let names = listed c.args.self.now.labels.now in
-    rw c.in-And.is
-    (and-chain formula_rules c.args.self.now (Laid names) _ _ (λ at s r s' o. rw (sym o.2, sym o.4) o.3)
-    (λ x y s t u u' v w z h k j.
-    let e : (drafted j.1.now ≡ push (drafted j.0.now) (and_node v w)) × (z ≡ top (drafted j.1.now)) = search of_calls in
-    buildings.joined names and_node x y s t u u' j.0.now j.1.now v w z h k j.2 j.4 e.0 e.1) _ _ _ c.chain-in-And.ensures)
+pub Cursor::formula-returns : goal.Cursor::formula-returns
+Cursor::formula-returns t c =
+    let names = listed c.args.self.now.labels.now in let j = c.in-Chain.joint in
+    rw c.in-Chain.is
+    (level_chain formula_rules c.args.self.now (Laid names) _ _ j _ c.sign.ensures (λ at s r s' o. rw (sym o.2, sym o.4) o.3)
+    (λ x y s t u u' v w z h k i.
+    let e : (drafted i.1.now ≡ push (drafted i.0.now) (node_of c.in-Chain.joint v w)) × (z ≡ top (drafted i.1.now)) = search of_calls in
+    buildings.joined names j x y s t u u' i.0.now i.1.now v w z h k i.2 i.4 e.0 e.1) _ _ _ c.chain.ensures)
 
 pub Cursor::negated-returns : goal.Cursor::negated-returns
 Cursor::negated-returns t c =
@@ -50,7 +41,7 @@ Cursor::one_part-returns t c =
       (λ n h. ap (λ g. then g (λ p rest. Some (short c.args.operator p.0 p.1, rest))) (d.1 n h)),
       (
         layings.laid-short (listed c.args.self.now.labels.now) c.args.operator u.0 u.1 y.actions (drafted c.args.draft.now) (drafted c.part.new.draft)
-            (drafted c.put.new.self) y.root d.2.1 d.2.0.0 d.2.0.1 c.put.ensures.after,
+            (drafted c.put.new.self) y.child d.2.1 d.2.0.0 d.2.0.1 c.put.ensures.after,
         c.put.ensures.number,
       ),
       d.3,
@@ -58,21 +49,21 @@ Cursor::one_part-returns t c =
 
 pub Cursor::two_parts-returns : goal.Cursor::two_parts-returns
 Cursor::two_parts-returns t c =
-    let s = c.args.self.now in let q = c.args.quantifier in let l = c.in_ok-link.link in
+    let s = c.args.self.now in let q = c.args.quantifier in let l = c.in_ok-link.link in let on = c.in_ok-link.rest in
     let first = c.in_ok-first.first in let second = c.in_ok-second.second in let a = c.in_ok-inside.ensures in
     let d = subst (λ x. BuildsPart x c.args.draft.now c.part.new.draft (λ r. part (r OrLevel)) (Some first)) c.moved_to.ensures c.in_ok-first.ensures in
-    let e = subst (λ x. Linked x (link (ahead x)) (Some l)) c.moved_to-2.ensures c.in_ok-link.ensures in
+    let e = subst (λ x. Linked (ahead x) (link (ahead x)) (Some (l, on))) c.moved_to-2.ensures c.in_ok-link.ensures in
     let f = subst (λ x. BuildsPart x c.part.new.draft c.part-2.new.draft (λ r. part (r OrLevel)) (Some second)) c.moved_to-3.ensures c.in_ok-second.ensures in
-    let g = past_there s _ second.end BracketClose (Some c.in_ok-end.end) c.moved_to-4.ensures c.in_ok-end.ensures in
+    let last = c.in_ok-second-2.second in let g = c.in_ok-second-2.ensures in
     let p = d.0 in let u = f.0 in (
       path q l p.0 p.1 u.0 u.1,
-      buildings.bracketed s q l p u c.in_ok-inside.inside first.end second.end c.in_ok-end.end a.0 a.1 d.1 d.3 e.0 f.1 g.0,
+      buildings.bracketed s q l p u c.in_ok-inside.inside first.rest on second.rest last.rest a.0 a.1 d.1 d.3 e.0 e.1 f.1 g.0,
       (
-        layings.laid-path (listed s.labels.now) q l p.0 u.0 p.1 u.1 first.value.actions second.value.actions (drafted c.args.draft.now) (drafted c.part.new.draft)
-            (drafted c.part-2.new.draft) (drafted c.put.new.self) first.value.root second.value.root d.2.1 f.2.1 d.2.0.0 d.2.0.1 f.2.0.0 f.2.0.1 c.put.ensures.after,
+        layings.laid-path (listed s.labels.now) q l p.0 u.0 p.1 u.1 first.value.actions last.value.actions (drafted c.args.draft.now) (drafted c.part.new.draft)
+            (drafted c.part-2.new.draft) (drafted c.put.new.self) first.value.child last.value.child d.2.1 (rw g.2 f.2.1) d.2.0.0 d.2.0.1 f.2.0.0 (rw g.2 f.2.0.1) c.put.ensures.after,
         c.put.ensures.number,
       ),
-      omega (arith, a.1, d.3, f.3, g.1),
+      omega (arith, a.1, d.3, e.1, f.3, g.1),
     )
 
 pub Cursor::part-returns-in_default : goal.Cursor::part-returns-in_default
@@ -89,7 +80,7 @@ pub Cursor::after_braces-returns : goal.Cursor::after_braces-returns
 Cursor::after_braces-returns t c = λ k h. (
   (k, TRUE),
   (λ n m. buildings.none_follows c.args.level k (ahead c.args.self.now) n c.if-can_begin.ensures),
-  ((c.put-root.ensures.after, c.put-root.ensures.number), h),
+  ((c.put-child.ensures.after, c.put-child.ensures.number), h),
   omega arith,
 )
 
@@ -111,32 +102,32 @@ Cursor::tight-returns-in_err-mark t c =
 pub Cursor::tight-returns-in-True : goal.Cursor::tight-returns-in-True
 Cursor::tight-returns-in-True t c =
     let s = c.args.self.now in
-    buildings.by_mark s _ c.args.draft.now c.put.new.self _ True c.in_ok-mark.ensures.0 c.in-True.is refl (Some (record { value = c.put.result; end = s.at + 1 }))
+    buildings.by_mark s _ c.args.draft.now c.put.new.self _ True c.in_ok-mark.rest c.in_ok-mark.ensures.0 c.in-True.is refl (Some (record { value = c.put.result; rest = c.in_ok-mark.rest }))
     (TRUE, (λ n h. refl), (c.put.ensures.after, c.put.ensures.number), omega arith)
 
 pub Cursor::tight-returns-in-False : goal.Cursor::tight-returns-in-False
 Cursor::tight-returns-in-False t c =
     let s = c.args.self.now in
-    buildings.by_mark s _ c.args.draft.now c.put-in-False.new.self _ False c.in_ok-mark.ensures.0 c.in-False.is refl (Some (record { value = c.put-in-False.result; end = s.at + 1 }))
+    buildings.by_mark s _ c.args.draft.now c.put-in-False.new.self _ False c.in_ok-mark.rest c.in_ok-mark.ensures.0 c.in-False.is refl (Some (record { value = c.put-in-False.result; rest = c.in_ok-mark.rest }))
     (FALSE, (λ n h. refl), (c.put-in-False.ensures.after, c.put-in-False.ensures.number), omega arith)
 
 pub Cursor::tight-returns-in-Not : goal.Cursor::tight-returns-in-Not
 Cursor::tight-returns-in-Not t c =
-    buildings.by_mark c.args.self.now _ c.args.draft.now c.negated.new.draft _ Not c.in_ok-mark.ensures.0 c.in-Not.is c.moved_to-rest.ensures c.negated.result c.negated.ensures
+    buildings.by_mark c.args.self.now _ c.args.draft.now c.negated.new.draft _ Not c.in_ok-mark.rest c.in_ok-mark.ensures.0 c.in-Not.is c.moved_to-onward.ensures c.negated.result c.negated.ensures
 
 pub Cursor::tight-returns-in-Sign : goal.Cursor::tight-returns-in-Sign
 Cursor::tight-returns-in-Sign t c =
-    buildings.by_mark c.args.self.now _ c.args.draft.now c.grouped.new.draft _ (signed c.in-Sign.sign) c.in_ok-mark.ensures.0 c.in-Sign.is c.moved_to-rest.ensures c.grouped.result c.grouped.ensures
+    buildings.by_mark c.args.self.now _ c.args.draft.now c.grouped.new.draft _ (signed c.in-Sign.sign) c.in_ok-mark.rest c.in_ok-mark.ensures.0 c.in-Sign.is c.moved_to-onward.ensures c.grouped.result c.grouped.ensures
 
 pub Cursor::tight-returns-in-Short : goal.Cursor::tight-returns-in-Short
 Cursor::tight-returns-in-Short t c =
-    buildings.by_mark c.args.self.now _ c.args.draft.now c.one_part.new.draft _ (Short c.in-Short.operator) c.in_ok-mark.ensures.0 c.in-Short.is c.moved_to-rest.ensures c.one_part.result c.one_part.ensures
+    buildings.by_mark c.args.self.now _ c.args.draft.now c.one_part.new.draft _ (Short c.in-Short.operator) c.in_ok-mark.rest c.in_ok-mark.ensures.0 c.in-Short.is c.moved_to-onward.ensures c.one_part.result c.one_part.ensures
 
 pub Cursor::tight-returns-in-Path : goal.Cursor::tight-returns-in-Path
 Cursor::tight-returns-in-Path t c =
-    buildings.by_mark c.args.self.now _ c.args.draft.now c.two_parts.new.draft _ (Path c.in-Path.quantifier) c.in_ok-mark.ensures.0 c.in-Path.is c.moved_to-rest.ensures c.two_parts.result c.two_parts.ensures
+    buildings.by_mark c.args.self.now _ c.args.draft.now c.two_parts.new.draft _ (Path c.in-Path.quantifier) c.in_ok-mark.rest c.in_ok-mark.ensures.0 c.in-Path.is c.moved_to-onward.ensures c.two_parts.result c.two_parts.ensures
 
 pub Cursor::tight-returns-in-Tau : goal.Cursor::tight-returns-in-Tau
 Cursor::tight-returns-in-Tau t c =
-    buildings.by_mark c.args.self.now _ c.args.draft.now c.args.draft.now c.in_ok-mark.mark c.in_ok-mark.mark c.in_ok-mark.ensures.0 refl refl None
+    buildings.by_mark c.args.self.now _ c.args.draft.now c.args.draft.now c.in_ok-mark.mark c.in_ok-mark.mark c.in_ok-mark.rest c.in_ok-mark.ensures.0 refl refl None
     (λ n h. buildings.no_formula (read formula_rules n) c.in_ok-mark.mark _ c.in-Tau.is)

@@ -4,5 +4,5 @@ use Rattle.formula.proofs.lexer.name_at.Goals as goal
 
 pub returns : goal.returns
 returns c =
-    let k = name-fits c.split_at.result.0.now (sym c.if-not-is_name.ensures) in
+    let k = name-fits c.run.result.0.now (sym c.if-not-is_name.ensures) in
     search rules
