@@ -15,7 +15,7 @@ use Rattle.meaning.specs.Lts.{Slot, Lts, named_within}
 use Rattle.model.specs.declared.cell.Cell.{Cell}
 use Rattle.model.specs.Cells.{blank, slot_of, slot_at, sound, grid_refusal}
 use Rattle.aut.specs.Form.{Transition, Form}
-use Rattle.aut.specs.Reading.{leaving, met, all_within, has_room, head_fits, verdict, oversize, cell_or_blank, Filled}
+use Rattle.aut.specs.Reading.{leaving, met, all_within, has_room, head_fits, settled, verdict, oversize, cell_or_blank, Filled}
 use Rattle.aut.specs.Writing.{Move, slot_moves, moves_at, moves_of, moves_below, moves, head_text, moves_text, text_of, all_have_names, write_answer}
 use Rattle.aut.specs.Back.{as_line, as_lines, header_for, ReadsBack}
 use Rattle.aut.proofs.Spelled.{all_are_names, known_at, action_at}
@@ -234,8 +234,8 @@ module _ (M : Lts) (before : Labels) (room w size : ℕ) (ok : write_answer M (l
 
   not_refused : verdict 65536 w size names (header_for M) ls ≡ Ok (header_for M)
   not_refused =
-      cond-false _ _ _ (not_from_true _ (and_from _ _ head_ok (lines-within M names (moves M) inside)))
-      ∙ cond-false _ _ _ (le-ltb size (M.states * w) enough) ∙ cond-false _ _ _ (not_from_true _ roomy)
+      ap (settled 65536 w size (header_for M)) (cond-true _ _ _ (lines-within M names (moves M) inside) ∙ cond-true _ _ _ roomy)
+      ∙ cond-false _ _ _ (not_from_true _ head_ok) ∙ cond-false _ _ _ (le-ltb size (M.states * w) enough)
 
 pub reads-back : ReadsBack
 reads-back M before after room w cells cells' r ok some wide few enough read = record {

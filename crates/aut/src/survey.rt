@@ -7,7 +7,7 @@ use base::labels::Labels;
 #[derive(Clone, Copy, PartialEq, Eq)]
 pub(crate) enum Fit {
     Whole,
-    Crowded,
+    Full,
     Outside,
 }
 

@@ -1,9 +1,9 @@
-ghost use Rattle.std.specs.Prelude.{◌≡◌, ℕ, ◌<◌, true, length, Some, None, MatchResult, slice_index};
+ghost use Rattle.std.specs.Prelude.{◌≡◌, ◌<◌, replicate, Some, None, MatchResult};
 ghost use Rattle.base.specs.Labels.{listed};
 ghost use Rattle.base.specs.declared.refusal.Refusal.TheVariants.{Garbled};
 ghost use Rattle.aut.specs.declared.survey.Fit.TheVariants.{Whole};
 ghost use Rattle.aut.specs.Lines.{lines_left};
-ghost use Rattle.aut.specs.Surveys.{seen, placed, noted, surveyed};
+ghost use Rattle.aut.specs.Surveys.{seen, unseen, placed, noted, surveyed};
 ghost use Rattle.aut.specs.Views.{line_of};
 
 use crate::header::Line;
@@ -15,8 +15,7 @@ use base::refusal::Refusal;
 
 // No transition counted at any state.
 pub(crate) fn no_counts() -> [u8; 65536]
-    ensures zeros { (s : ℕ) → slice_index result s ≡ 0 }
-    ensures rows { length result ≡ 65536 }
+    ensures { result ≡ replicate 65536 0 }
 {
     [0; 65536]
 }
@@ -24,11 +23,7 @@ pub(crate) fn no_counts() -> [u8; 65536]
 impl Survey {
     // Nothing seen yet.
     pub(crate) fn start(labels: Labels, shape: Shape) -> Survey
-        ensures shape { result.shape ≡ shape }
-        ensures names { (seen result).names ≡ listed labels }
-        ensures counts { (s : ℕ) → slice_index (seen result).counts s ≡ 0 }
-        ensures inside { (seen result).inside ≡ true }
-        ensures room { (seen result).room ≡ true }
+        ensures { seen result ≡ unseen shape (listed labels) }
     {
         Survey {
             shape,
@@ -42,24 +37,22 @@ impl Survey {
     fn place(&mut self, line: &Line)
         requires within { line.now.from < 65536 }
         requires whole { self.old.fit ≡ Whole }
-        ensures shape { self.new.shape ≡ self.old.shape }
-        ensures seen { seen self.new ≡ placed self.old.shape.slots (line_of line.now) (seen self.old) }
+        ensures { seen self.new ≡ placed (line_of line.now) (seen self.old) }
     {
         let used = self.counts[line.from];
         if self.shape.slots <= used as usize {
-            self.fit = Fit::Crowded;
+            self.fit = Fit::Full;
             return;
         }
         match self.labels.add(line.label.as_bytes()) {
             Ok(_) => self.counts[line.from] = used + 1,
-            Err(_) => self.fit = Fit::Crowded,
+            Err(_) => self.fit = Fit::Full,
         }
     }
 
     // One line more.
     fn note(&mut self, line: &Line)
-        ensures shape { self.new.shape ≡ self.old.shape }
-        ensures seen { seen self.new ≡ noted self.old.shape.states self.old.shape.slots (line_of line.now) (seen self.old) }
+        ensures { seen self.new ≡ noted (line_of line.now) (seen self.old) }
     {
         if !self.shape.holds(line) {
             self.fit = Fit::Outside;
@@ -70,9 +63,8 @@ impl Survey {
 
     // The first pass: notes the lines of a text that has just these.
     pub(crate) fn note_all(&mut self, lines: Lines) -> Result<(), Refusal>
-        ensures shape { self.new.shape ≡ self.old.shape }
-        ensures seen { MatchResult result
-            (λ _. surveyed self.old.shape.states self.old.shape.slots (seen self.old) (lines_left lines.entry) ≡ Some (seen self.new))
+        ensures { MatchResult result
+            (λ _. surveyed (seen self.old) (lines_left lines.entry) ≡ Some (seen self.new))
             (λ e. (e ≡ Garbled) × (lines_left lines.entry ≡ None)) }
     {
         for line in lines {
