@@ -13,7 +13,6 @@ mod plan;
 mod putting;
 pub mod reader;
 mod scan;
-mod scanning;
 mod shape;
 mod shaping;
 mod survey;
