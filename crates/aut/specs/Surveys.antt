@@ -18,7 +18,7 @@ pub record Seen : Type 0 where
   pub fit : Fit
 
 abbrev pub seen : Survey → Seen
-seen s = record { shape = s.shape; names = listed s.labels; counts = s.counts; fit = s.fit }
+seen s = record { shape = s.shape; names = listed s.labels; counts = s.counts.taken; fit = s.fit }
 
 -- no line yet
 abbrev pub unseen : Shape → List (List ℕ) → Seen

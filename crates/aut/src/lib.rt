@@ -3,6 +3,7 @@
 
 pub mod agree;
 pub mod copy;
+mod counts;
 mod field;
 pub mod front;
 pub mod header;
@@ -16,7 +17,6 @@ mod scan;
 mod shape;
 mod shaping;
 mod survey;
-mod surveying;
 mod tally;
 mod tallying;
 mod transition;

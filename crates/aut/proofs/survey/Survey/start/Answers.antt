@@ -4,4 +4,4 @@ use Rattle.aut.specs.declared.survey.Fit.TheVariants.{Whole}
 use Rattle.aut.proofs.survey.Survey.start.Goals as goal
 
 pub returns : goal.returns
-returns c = ap (λ x. record { shape = c.args.shape; names = listed c.args.labels; counts = x; fit = Whole }) c.no_counts.ensures
+returns c = ap (λ x. record { shape = c.args.shape; names = listed c.args.labels; counts = x; fit = Whole }) c.none.ensures
