@@ -35,7 +35,7 @@ each_append P (m ∷ a) b (and p ps) q = and p (each_append P a b ps q)
 
 -- a transition within a model
 abbrev Inside : Lts → Move → Type 0
-Inside M m = (m.from < M.states) × (m.action < 64) × (m.to < M.states)
+Inside M m = (m.from < M.states) × (m.label < 64) × (m.to < M.states)
 
 slot-inside : (M : Lts) (s k : ℕ) (x : Slot) → s < M.states → M.slot s k ≡ x → Each (Inside M) (slot_moves s x)
 slot-inside M s k None h e = ends
@@ -53,7 +53,7 @@ inside_below M (suc n) h = each_append (Inside M) (moves_below M n) (moves_of M 
 fits : (M : Lts) (names : List (List ℕ)) (ms : List Move) → Each (Inside M) ms → all_have_names names ms ≡ true → AllFit names ms
 fits M names [] ends h = no_moves
 fits M names (m ∷ ms) (and p ps) h =
-    let q = and_parts (is_some (slice_get names m.action)) (all_have_names names ms) h in let most = M.few_states in
+    let q = and_parts (is_some (slice_get names m.label)) (all_have_names names ms) h in let most = M.few_states in
     move (record { from = omega (arith, p.0); to = omega (arith, p.2); named = q.0 }) (fits M names ms ps q.1)
 
 lines-within : (M : Lts) (names : List (List ℕ)) (ms : List Move) → Each (Inside M) ms → all_within M.states (as_lines names ms) ≡ true
@@ -120,17 +120,17 @@ leaving-is M names (suc n) s h =
 met-none : (names : List (List ℕ)) (ms : List Move) → all_have_names names ms ≡ true → met names (as_lines names ms) ≡ names
 met-none names [] h = refl
 met-none names (m ∷ ms) h =
-    let q = and_parts (is_some (slice_get names m.action)) (all_have_names names ms) h in
-    ap (λ x. met x (as_lines names ms)) (cond-true _ _ _ (known_at names m.action q.0)) ∙ met-none names ms q.1
+    let q = and_parts (is_some (slice_get names m.label)) (all_have_names names ms) h in
+    ap (λ x. met x (as_lines names ms)) (cond-true _ _ _ (known_at names m.label q.0)) ∙ met-none names ms q.1
 
 -- all transitions of a state have names where all of the model have
 have_left : (names : List (List ℕ)) (a b : List Move) → all_have_names names (a ++ b) ≡ true → all_have_names names a ≡ true
 have_left names [] b h = refl
-have_left names (m ∷ a) b h = let q = and_parts (is_some (slice_get names m.action)) (all_have_names names (a ++ b)) h in and_from _ _ q.0 (have_left names a b q.1)
+have_left names (m ∷ a) b h = let q = and_parts (is_some (slice_get names m.label)) (all_have_names names (a ++ b)) h in and_from _ _ q.0 (have_left names a b q.1)
 
 have_right : (names : List (List ℕ)) (a b : List Move) → all_have_names names (a ++ b) ≡ true → all_have_names names b ≡ true
 have_right names [] b h = h
-have_right names (m ∷ a) b h = have_right names a b (and_parts (is_some (slice_get names m.action)) (all_have_names names (a ++ b)) h).1
+have_right names (m ∷ a) b h = have_right names a b (and_parts (is_some (slice_get names m.label)) (all_have_names names (a ++ b)) h).1
 
 have_of : (M : Lts) (names : List (List ℕ)) (n s : ℕ) → s < n → all_have_names names (moves_below M n) ≡ true → all_have_names names (moves_of M s) ≡ true
 have_of M names zero s l h = absurd (omega arith)
@@ -140,15 +140,15 @@ have_of M names (suc n) s l h =
 
 -- a cell holds the transition that its line came from
 cell_back : (names : List (List ℕ)) (ms : List Move) (k : ℕ) → lawful names ≡ true → all_have_names names ms ≡ true →
-    slot_of (cell_or_blank names (slice_get (as_lines names ms) k)) ≡ option_map (λ m. (m.action, m.to)) (slice_get ms k)
+    slot_of (cell_or_blank names (slice_get (as_lines names ms) k)) ≡ option_map (λ m. (m.label, m.to)) (slice_get ms k)
 cell_back names [] k law h = refl
 cell_back names (m ∷ ms) zero law h =
-    let q = and_parts (is_some (slice_get names m.action)) (all_have_names names ms) h in
-    ap (λ o. Some (unwrap_or o 0, m.to)) (action_at names m.action law q.0)
-cell_back names (m ∷ ms) (suc k) law h = cell_back names ms k law (and_parts (is_some (slice_get names m.action)) (all_have_names names ms) h).1
+    let q = and_parts (is_some (slice_get names m.label)) (all_have_names names ms) h in
+    ap (λ o. Some (unwrap_or o 0, m.to)) (action_at names m.label law q.0)
+cell_back names (m ∷ ms) (suc k) law h = cell_back names ms k law (and_parts (is_some (slice_get names m.label)) (all_have_names names ms) h).1
 
 -- cells that hold transitions of the model are sound
-within-at : (M : Lts) (ms : List Move) (k : ℕ) → Each (Inside M) ms → named_within M.states (option_map (λ m. (m.action, m.to)) (slice_get ms k)) ≡ true
+within-at : (M : Lts) (ms : List Move) (k : ℕ) → Each (Inside M) ms → named_within M.states (option_map (λ m. (m.label, m.to)) (slice_get ms k)) ≡ true
 within-at M [] k ends = refl
 within-at M (m ∷ ms) zero (and p ps) = and_from _ _ (lt-ltb _ _ p.1) (lt-ltb _ _ p.2)
 within-at M (m ∷ ms) (suc k) (and p ps) = within-at M ms k ps
@@ -264,7 +264,7 @@ reads-back M before after room w cells cells' r ok some wide few enough read = r
     filled : Filled M.states w (listed after) (as_lines (listed before) (moves M)) cells cells'
     filled = read.filled (header_for M) (as_lines (listed before) (moves M)) the_form answer
 
-    slots : (s k : ℕ) → s < M.states → k < w → slot_of (get_or cells' (s * w + k) blank) ≡ option_map (λ m. (m.action, m.to)) (slice_get (moves_of M s) k)
+    slots : (s k : ℕ) → s < M.states → k < w → slot_of (get_or cells' (s * w + k) blank) ≡ option_map (λ m. (m.label, m.to)) (slice_get (moves_of M s) k)
     slots s k h j =
         ap slot_of (filled.slots s k h j)
         ∙ ap (λ n. slot_of (cell_or_blank n (slice_get (leaving s (as_lines (listed before) (moves M))) k))) labels

@@ -2,12 +2,11 @@
 use Rattle.std.specs.Prelude.{◌≡◌, ℕ, ◌+◌, ◌-◌, ◌*◌, ◌≤◌, Bool, true, ◌&&◌, List, [], ◌∷◌, ◌++◌, length, codes, slice_index_or}
 use Rattle.base.specs.Names.{digit, is_name}
 use Rattle.aut.specs.declared.header.Header.{Header}
+use Rattle.aut.specs.declared.transition.Edge.{Edge}
 
 -- a transition as a line has it: a state, a label and a state
-pub record Transition : Type 0 where
-  pub from : ℕ
-  pub label : List ℕ
-  pub to : ℕ
+abbrev pub Transition : Type 0
+Transition = Edge (List ℕ)
 
 abbrev pub all_digits : List ℕ → Bool
 all_digits [] = true

@@ -3,8 +3,9 @@ ghost use Rattle.std.specs.Iterator.{at_most};
 ghost use Rattle.aut.specs.Scanning.{lines_of};
 ghost use Rattle.aut.specs.Lines.{lines_left, TakesLine};
 
-use crate::header::{Header, Line};
+use crate::header::Header;
 use crate::scan::next_line;
+use crate::transition::Line;
 use base::refusal::Refusal;
 
 // The lines after line one, as many as it announces. A line that is not of the form is refused, and so is text after the last.

@@ -23,7 +23,7 @@ pub(crate) fn line_length(labels: &Labels, line: Move) -> Option<usize>
     ensures long { result ≡ line_length (listed labels.now) line }
     ensures few { IfSome result (λ n. n ≤ 63) }
 {
-    let name = labels.name_of(line.action)?;
+    let name = labels.name_of(line.label)?;
     Some(number_length(line.from) + name.len() + number_length(line.to) + 7)
 }
 
@@ -71,7 +71,7 @@ impl Pen<'_> {
             b"(",
             from.format(line.from).as_bytes(),
             b",\"",
-            labels.name_of(line.action).unwrap_or(&[]),
+            labels.name_of(line.label).unwrap_or(&[]),
             b"\",",
             to.format(line.to).as_bytes(),
             b")\n",

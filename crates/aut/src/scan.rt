@@ -4,7 +4,8 @@ ghost use Rattle.aut.specs.Scanning.{begin, digit_in, letter_in, store_in, next,
 ghost use Rattle.aut.specs.Views.{line_of, view};
 
 use crate::field::{Field, Part, Turn, byte_means};
-use crate::header::{Header, Line};
+use crate::header::Header;
+use crate::transition::{Edge, Line};
 use base::name::Name;
 
 // The reader within a line: the field, the number being read if a digit of it was, and what was read before.
@@ -26,7 +27,7 @@ impl Scan {
             transitions: 0,
             states: 0,
         };
-        let line = Line {
+        let line = Edge {
             from: 0,
             label: Name::empty(),
             to: 0,

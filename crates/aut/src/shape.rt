@@ -1,6 +1,6 @@
 ghost use Rattle.std.specs.Prelude.{◌≤◌};
 
-use crate::header::Line;
+use crate::transition::Line;
 
 // The shape of a grid: how many states there are, and how many slots at each.
 // kept: a type beside a model's `Size`, whose fields are any two numbers: a shape is within the limits, so that its cells can be counted.

@@ -7,9 +7,9 @@ ghost use Rattle.aut.specs.Surveys.{seen, unseen, placed, noted, surveyed};
 ghost use Rattle.aut.specs.Views.{line_of};
 
 use crate::counts::Counts;
-use crate::header::Line;
 use crate::lines::Lines;
 use crate::shape::Shape;
+use crate::transition::Line;
 use base::labels::Labels;
 use base::refusal::Refusal;
 
