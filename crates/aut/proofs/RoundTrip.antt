@@ -1,8 +1,10 @@
 -- A written text reads back as the same transitions.
-use Rattle.std.proofs.Common.{◌≡◌, ℕ, zero, suc, ◌+◌, ◌*◌, ◌/◌, ◌%◌, ◌<◌, ◌≤◌, Bool, true, false, cond, not, ltb, List, [], ◌∷◌, ◌++◌, length, get_or, take, is_some, Some, None, Ok, Err, unwrap_or, sym, refl, ap, ◌∙◌, ⊎_elim, div-add-mod', arith}
+use Rattle.std.proofs.Common.{◌≡◌, ℕ, zero, suc, ◌+◌, ◌*◌, ◌/◌, ◌%◌, ◌<◌, ◌≤◌, Bool, true, false, cond, not, eqb, ltb, List, [], ◌∷◌, ◌++◌, length, get_or, take, is_some, Some, None, Ok, Err, unwrap_or, sym, refl, ap, ◌∙◌, ⊎_elim, div-add-mod', arith}
 use Rattle.std.specs.Option.{option_map}
 use Rattle.std.specs.List.{slice_get}
 use Rattle.std.proofs.lemmas.List.{append-nil, length-map, map-append}
+use Rattle.std.proofs.lemmas.List.Elements.{filter-append}
+use Rattle.std.proofs.lemmas.List.Folds.{list_all-append}
 use Rattle.std.proofs.lemmas.Bool.{and_parts, and_from, or_from, cond-true, cond-false, cases_lt, cases_eq, eq-eqb, ne_eqb, lt-ltb, le-ltb, le-leb, not_from_false, not_from_true, ltb-false}
 use Rattle.std.proofs.lemmas.Nat.{div_below, mod_below}
 use Rattle.std.proofs.lemmas.Fmt.{length-decimal-le}
@@ -62,11 +64,7 @@ lines-within M names (m ∷ ms) (and p ps) = and_from _ _ (and_from _ _ (lt-ltb 
 
 -- the transitions of a state among the lines
 leaving-append : (s : ℕ) (a b : List Transition) → leaving s (a ++ b) ≡ leaving s a ++ leaving s b
-leaving-append s [] b = refl
-leaving-append s (l ∷ a) b =
-    ⊎_elim
-    (λ e. cond-true _ _ _ (eq-eqb l.from s e) ∙ ap (λ x. l ∷ x) (leaving-append s a b) ∙ ap (λ x. x ++ leaving s b) (sym (cond-true _ _ _ (eq-eqb l.from s e))))
-    (λ n. cond-false _ _ _ (ne_eqb l.from s n) ∙ leaving-append s a b ∙ ap (λ x. x ++ leaving s b) (sym (cond-false _ _ _ (ne_eqb l.from s n)))) (cases_eq l.from s)
+leaving-append s a b = filter-append (λ l. eqb l.from s) a b
 
 slot_own : (names : List (List ℕ)) (s : ℕ) (x : Slot) → leaving s (as_lines names (slot_moves s x)) ≡ as_lines names (slot_moves s x)
 slot_own names s None = refl
@@ -124,19 +122,14 @@ met-none names (m ∷ ms) h =
     ap (λ x. met x (as_lines names ms)) (cond-true _ _ _ (known_at names m.label q.0)) ∙ met-none names ms q.1
 
 -- all transitions of a state have names where all of the model have
-have_left : (names : List (List ℕ)) (a b : List Move) → all_have_names names (a ++ b) ≡ true → all_have_names names a ≡ true
-have_left names [] b h = refl
-have_left names (m ∷ a) b h = let q = and_parts (is_some (slice_get names m.label)) (all_have_names names (a ++ b)) h in and_from _ _ q.0 (have_left names a b q.1)
-
-have_right : (names : List (List ℕ)) (a b : List Move) → all_have_names names (a ++ b) ≡ true → all_have_names names b ≡ true
-have_right names [] b h = h
-have_right names (m ∷ a) b h = have_right names a b (and_parts (is_some (slice_get names m.label)) (all_have_names names (a ++ b)) h).1
+have_both : (names : List (List ℕ)) (a b : List Move) → all_have_names names (a ++ b) ≡ true → (all_have_names names a ≡ true) × (all_have_names names b ≡ true)
+have_both names a b h = and_parts (all_have_names names a) (all_have_names names b) (sym (list_all-append (λ m. is_some (slice_get names m.label)) a b) ∙ h)
 
 have_of : (M : Lts) (names : List (List ℕ)) (n s : ℕ) → s < n → all_have_names names (moves_below M n) ≡ true → all_have_names names (moves_of M s) ≡ true
 have_of M names zero s l h = absurd (omega arith)
 have_of M names (suc n) s l h =
-    ⊎_elim (λ k. have_of M names n s k (have_left names (moves_below M n) (moves_of M n) h))
-    (λ k. let e : n ≡ s = omega arith in ap (λ x. all_have_names names (moves_of M x)) (sym e) ∙ have_right names (moves_below M n) (moves_of M n) h) (cases_lt s n)
+    ⊎_elim (λ k. have_of M names n s k ((have_both names (moves_below M n) (moves_of M n) h).0))
+    (λ k. let e : n ≡ s = omega arith in ap (λ x. all_have_names names (moves_of M x)) (sym e) ∙ (have_both names (moves_below M n) (moves_of M n) h).1) (cases_lt s n)
 
 -- a cell holds the transition that its line came from
 cell_back : (names : List (List ℕ)) (ms : List Move) (k : ℕ) → lawful names ≡ true → all_have_names names ms ≡ true →

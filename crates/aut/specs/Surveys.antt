@@ -1,6 +1,7 @@
 -- What the first pass over the lines finds out, before anything is written.
 use Rattle.std.specs.Prelude.{ℕ, ◌+◌, Bool, cond, ◌&&◌, List, [], ◌∷◌, replicate, Ok, Err, Option, Result, nat_le, nat_lt, slice_index, slice_set}
 use Rattle.std.specs.Option.{option_map}
+use Rattle.std.specs.List.{fold}
 use Rattle.base.specs.declared.refusal.Refusal.{Refusal}
 use Rattle.base.specs.Listing.{add_answer, add_names}
 use Rattle.base.specs.Labels.{listed}
@@ -54,8 +55,7 @@ abbrev pub noted : Transition → Seen → Seen
 noted l v = cond (within v.shape.states l) (noted_by v.fit l v) (outside v)
 
 abbrev pub all_noted : Seen → List Transition → Seen
-all_noted v [] = v
-all_noted v (l ∷ ls) = all_noted (noted l v) ls
+all_noted v ls = fold (λ x l. noted l x) v ls
 
 -- what the lines of a text show, if it has just these
 abbrev pub surveyed : Seen → Option (List Transition) → Option Seen

@@ -31,16 +31,22 @@ pub(crate) struct Survey {
 }
 
 impl Survey {
-    // Nothing seen yet.
-    pub(crate) fn start(labels: Labels, shape: Shape) -> Survey
-        ensures { seen result ≡ unseen shape (listed labels) }
+    // The first pass over the lines of a text that has just these.
+    pub(crate) fn of(lines: Lines, labels: Labels, shape: Shape) -> Result<Survey, Refusal>
+        ensures { MatchResult result
+            (λ s. surveyed (unseen shape (listed labels)) (lines_left lines.entry) ≡ Some (seen s))
+            (λ e. (e ≡ Garbled) × (lines_left lines.entry ≡ None)) }
     {
-        Survey {
+        let mut survey = Survey {
             shape,
             labels,
             counts: Counts::none(),
             fit: Fit::Whole,
+        };
+        for line in lines {
+            survey.note(&line?);
         }
+        Ok(survey)
     }
 
     // One transition more at its state, if that has a free slot and the label a place.
@@ -66,17 +72,5 @@ impl Survey {
         } else if self.fit == Fit::Whole {
             self.place(line);
         }
-    }
-
-    // The first pass: notes the lines of a text that has just these.
-    pub(crate) fn note_all(&mut self, lines: Lines) -> Result<(), Refusal>
-        ensures { MatchResult result
-            (λ _. surveyed (seen self.old) (lines_left lines.entry) ≡ Some (seen self.new))
-            (λ e. (e ≡ Garbled) × (lines_left lines.entry ≡ None)) }
-    {
-        for line in lines {
-            self.note(&line?);
-        }
-        Ok(())
     }
 }
