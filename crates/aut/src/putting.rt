@@ -10,6 +10,7 @@ use itoa::Buffer;
 
 // How many bytes of a line, and of line one, are neither of a number nor of a name.
 const LINE_MARKS: usize = b"(,\"\",)\n".len();
+
 const HEAD_MARKS: usize = b"des (,,)\n".len();
 
 // How many digits a number has.

@@ -1,5 +1,5 @@
-use Rattle.std.proofs.Common.{length, sym, ◌∙◌, arith}
-use Rattle.aut.proofs.Fronts.{further, broken}
+use Rattle.std.proofs.Common.{length, ◌∙◌, arith}
+use Rattle.aut.proofs.Fronts.{further}
 use Rattle.aut.proofs.front.skip_lines.Goals as goal
 
 pub loop-preserved : goal.loop-preserved

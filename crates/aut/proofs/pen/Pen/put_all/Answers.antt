@@ -1,8 +1,7 @@
-use Rattle.std.proofs.Common.{[], take, sym, subst, arith}
-use Rattle.std.proofs.lemmas.List.{take_all}
+use Rattle.std.proofs.Common.{[], take, arith}
 use Rattle.std.proofs.lemmas.List.Folds.{length-flat_map-take}
-use Rattle.aut.specs.Pens.{joined, Wrote}
-use Rattle.aut.proofs.Pens.{wrote-nothing, then_wrote, room_left, flat_map_take}
+use Rattle.aut.specs.Pens.{joined}
+use Rattle.aut.proofs.Pens.{room_left}
 use Rattle.aut.proofs.pen.Pen.put_all.Goals as goal
 
 pub put-requires : goal.put-requires
