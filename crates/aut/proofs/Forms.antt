@@ -49,7 +49,7 @@ line_one i m n p q r = record {
 pub record Fit (names : List (List ℕ)) (m : Move) : Type 0 where
   pub from : m.from < 100000
   pub to : m.to < 100000
-  pub named : is_some (slice_get names m.action) ≡ true
+  pub named : is_some (slice_get names m.label) ≡ true
 
 pub line_of-move : (names : List (List ℕ)) (m : Move) → all_names names ≡ true → Fit names m → FurtherLine (move_text names m) (as_line names m)
 line_of-move names m law f = record {
@@ -58,7 +58,7 @@ line_of-move names m law f = record {
   gap = [];
   gap' = [];
   from_is = numeral m.from f.from;
-  label_is = is_name-at names m.action law f.named;
+  label_is = is_name-at names m.label law f.named;
   to_is = numeral m.to f.to;
   gap_is = nothing;
   gap_is' = nothing;

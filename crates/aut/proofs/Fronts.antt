@@ -2,17 +2,17 @@
 use Rattle.std.proofs.Common.{◌≡◌, ℕ, zero, suc, ◌+◌, ◌-◌, ◌<◌, ◌≤◌, false, eqb, ltb, List, [], ◌∷◌, ◌++◌, length, get_or, take, drop, Some, None, Ok, Err, Option, Result, sym, refl, ap, ◌∙◌, subst, arith}
 use Rattle.std.specs.Option.{option_map}
 use Rattle.std.proofs.lemmas.List.{length-append, length-drop}
+use Rattle.std.proofs.lemmas.Option.{none-some, same_Some}
 use Rattle.std.proofs.lemmas.Bool.{both_ways, cond-true, cond-false, eq-eqb, ne_eqb}
 use Rattle.base.specs.declared.refusal.Refusal.{Refusal}
 use Rattle.base.specs.declared.refusal.Refusal.TheVariants.{Garbled}
 use Rattle.base.specs.declared.labels.Labels.{Labels}
 use Rattle.model.specs.declared.cell.Cell.{Cell}
-use Rattle.aut.specs.declared.field.Field.TheVariants.{D}
 use Rattle.aut.specs.declared.header.Header.{Header}
-use Rattle.aut.specs.Scanning.{State, begin, scan_on}
+use Rattle.aut.specs.Scanning.{first_line}
 use Rattle.aut.specs.Reading.{Read}
 use Rattle.aut.specs.Front.{lines_length, FirstLine, ModelFront, header_of, FrontRead}
-use Rattle.aut.proofs.Readings.{same, line-one_in, line_one_out}
+use Rattle.aut.proofs.Readings.{line-one_in, line_one_out}
 
 -- one line fewer is left
 one_left : (m i : ℕ) → i < m → m - i ≡ suc (m - (i + 1))
@@ -68,43 +68,37 @@ broken whole lines i t h none =
 
 -- line one as the reader finds it is the only one
 module _ (input : List ℕ) where
-  found : (n : ℕ) (k : ModelFront input n) → (s : State) × (scan_on (begin D) input ≡ Some (s, k.rest)) × (s.head ≡ k.header)
-  found n k =
-      let q = line-one_in k.first k.rest k.header k.first_is in
-      (q.0, ap (scan_on (begin D)) k.reads ∙ q.1, q.2)
+  found : (n : ℕ) (k : ModelFront input n) → first_line input ≡ Some (k.header, k.rest)
+  found n k = ap first_line k.reads ∙ line-one_in k.first k.rest k.header k.first_is
 
-  pub no_front : scan_on (begin D) input ≡ None → (n : ℕ) → ModelFront input n → ⊥
-  no_front e n k = nothing (sym e ∙ (found n k).1)
-    where
-      nothing : {X : Type 0} {x : X} → ◌≡◌ {A = Option X} None (Some x) → ⊥
-      nothing z = let y : ◌≡◌ {A = ℕ} 0 1 = cc in omega arith
+  pub no_front : first_line input ≡ None → (n : ℕ) → ModelFront input n → ⊥
+  no_front e n k = none-some _ (sym e ∙ found n k)
 
-  module _ (s : State) (body : List ℕ) (first : scan_on (begin D) input ≡ Some (s, body)) where
+  module _ (h : Header) (body : List ℕ) (first : first_line input ≡ Some (h, body)) where
     -- how long line one is
     pub long : (first : List ℕ) → input ≡ first ++ body → length first ≡ length input - length body
     long x e = omega (arith, ap length e, length-append x body)
 
-    pub front-is : (n : ℕ) → ModelFront input n → option_map (λ k. length input - length body + k) (lines_length s.head.transitions body) ≡ Some n
+    pub front-is : (n : ℕ) → ModelFront input n → option_map (λ k. length input - length body + k) (lines_length h.transitions body) ≡ Some n
     front-is n k =
-        let q = found n k in
-        let both = same (sym first ∙ q.1) in
+        let both = same_Some _ _ (sym first ∙ found n k) in
         let rest : body ≡ k.rest = ap (λ p. p.1) both in
-        let head : s.head ≡ k.header = ap (λ p. p.0.head) both ∙ q.2 in
-        ap (λ x. option_map (λ j. x + j) (lines_length s.head.transitions body)) (sym (long k.first (k.reads ∙ ap (λ x. k.first ++ x) (sym rest))))
+        let head : h ≡ k.header = ap (λ p. p.0) both in
+        ap (λ x. option_map (λ j. x + j) (lines_length h.transitions body)) (sym (long k.first (k.reads ∙ ap (λ x. k.first ++ x) (sym rest))))
         ∙ ap (λ x. option_map (λ j. length k.first + j) (lines_length x.transitions body)) head
         ∙ ap (λ x. option_map (λ j. length k.first + j) (lines_length k.header.transitions x)) rest
         ∙ k.lines
 
-    pub front_made : (n : ℕ) → option_map (λ k. length input - length body + k) (lines_length s.head.transitions body) ≡ Some n → ModelFront input n
+    pub front_made : (n : ℕ) → option_map (λ k. length input - length body + k) (lines_length h.transitions body) ≡ Some n → ModelFront input n
     front_made n e =
-        let q = line_one_out input s body first in
+        let q = line_one_out input h body first in
         record {
-          header = s.head;
+          header = h;
           first = q.0;
           rest = body;
           first_is = q.1;
           reads = q.2;
-          lines = ap (λ x. option_map (λ j. x + j) (lines_length s.head.transitions body)) (long q.0 q.2) ∙ e;
+          lines = ap (λ x. option_map (λ j. x + j) (lines_length h.transitions body)) (long q.0 q.2) ∙ e;
         }
 
 -- what reading a front comes to: no model there, or one that is read as a text of its own

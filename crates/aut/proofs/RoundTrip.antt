@@ -1,9 +1,11 @@
 -- A written text reads back as the same transitions.
-use Rattle.std.proofs.Common.{◌≡◌, ℕ, zero, suc, ◌+◌, ◌*◌, ◌/◌, ◌%◌, ◌<◌, ◌≤◌, Bool, true, false, cond, not, ltb, List, [], ◌∷◌, ◌++◌, length, get_or, take, is_some, Some, None, Ok, Err, unwrap_or, sym, refl, ap, ◌∙◌, ⊎_elim, div-add-mod', arith}
+use Rattle.std.proofs.Common.{◌≡◌, ℕ, zero, suc, ◌+◌, ◌*◌, ◌/◌, ◌%◌, ◌<◌, ◌≤◌, Bool, true, false, cond, not, eqb, ltb, List, [], ◌∷◌, ◌++◌, length, get_or, take, is_some, Some, None, Ok, Err, unwrap_or, sym, refl, ap, ◌∙◌, ⊎_elim, div-add-mod', arith}
 use Rattle.std.specs.Option.{option_map}
 use Rattle.std.specs.List.{slice_get}
 use Rattle.std.proofs.lemmas.List.{append-nil, length-map, map-append}
-use Rattle.std.proofs.lemmas.Bool.{and_parts, and_from, or_from, cond-true, cond-false, cases_lt, cases_eq, eq-eqb, ne_eqb, lt-ltb, le-ltb, le-leb, not_from_false, not_from_true, ltb-false}
+use Rattle.std.proofs.lemmas.List.Elements.{filter-append}
+use Rattle.std.proofs.lemmas.List.Folds.{list_all-append}
+use Rattle.std.proofs.lemmas.Bool.{and_parts, and_from, or_from, cond-true, cond-false, cases_lt, eq-eqb, ne_eqb, lt-ltb, le-ltb, le-leb, not_from_false, not_from_true, ltb-false}
 use Rattle.std.proofs.lemmas.Nat.{div_below, mod_below}
 use Rattle.std.proofs.lemmas.Fmt.{length-decimal-le}
 use Rattle.base.specs.declared.refusal.Refusal.TheVariants.{Short, Nameless, TooBig}
@@ -15,7 +17,7 @@ use Rattle.meaning.specs.Lts.{Slot, Lts, named_within}
 use Rattle.model.specs.declared.cell.Cell.{Cell}
 use Rattle.model.specs.Cells.{blank, slot_of, slot_at, sound, grid_refusal}
 use Rattle.aut.specs.Form.{Transition, Form}
-use Rattle.aut.specs.Reading.{leaving, met, all_within, has_room, head_fits, verdict, oversize, cell_or_blank, Filled}
+use Rattle.aut.specs.Reading.{leaving, met, all_within, has_room, head_fits, settled, verdict, oversize, cell_or_blank, Filled}
 use Rattle.aut.specs.Writing.{Move, slot_moves, moves_at, moves_of, moves_below, moves, head_text, moves_text, text_of, all_have_names, write_answer}
 use Rattle.aut.specs.Back.{as_line, as_lines, header_for, ReadsBack}
 use Rattle.aut.proofs.Spelled.{all_are_names, known_at, action_at}
@@ -35,7 +37,7 @@ each_append P (m ∷ a) b (and p ps) q = and p (each_append P a b ps q)
 
 -- a transition within a model
 abbrev Inside : Lts → Move → Type 0
-Inside M m = (m.from < M.states) × (m.action < 64) × (m.to < M.states)
+Inside M m = (m.from < M.states) × (m.label < 64) × (m.to < M.states)
 
 slot-inside : (M : Lts) (s k : ℕ) (x : Slot) → s < M.states → M.slot s k ≡ x → Each (Inside M) (slot_moves s x)
 slot-inside M s k None h e = ends
@@ -53,7 +55,7 @@ inside_below M (suc n) h = each_append (Inside M) (moves_below M n) (moves_of M 
 fits : (M : Lts) (names : List (List ℕ)) (ms : List Move) → Each (Inside M) ms → all_have_names names ms ≡ true → AllFit names ms
 fits M names [] ends h = no_moves
 fits M names (m ∷ ms) (and p ps) h =
-    let q = and_parts (is_some (slice_get names m.action)) (all_have_names names ms) h in let most = M.few_states in
+    let q = and_parts (is_some (slice_get names m.label)) (all_have_names names ms) h in let most = M.few_states in
     move (record { from = omega (arith, p.0); to = omega (arith, p.2); named = q.0 }) (fits M names ms ps q.1)
 
 lines-within : (M : Lts) (names : List (List ℕ)) (ms : List Move) → Each (Inside M) ms → all_within M.states (as_lines names ms) ≡ true
@@ -62,11 +64,7 @@ lines-within M names (m ∷ ms) (and p ps) = and_from _ _ (and_from _ _ (lt-ltb 
 
 -- the transitions of a state among the lines
 leaving-append : (s : ℕ) (a b : List Transition) → leaving s (a ++ b) ≡ leaving s a ++ leaving s b
-leaving-append s [] b = refl
-leaving-append s (l ∷ a) b =
-    ⊎_elim
-    (λ e. cond-true _ _ _ (eq-eqb l.from s e) ∙ ap (λ x. l ∷ x) (leaving-append s a b) ∙ ap (λ x. x ++ leaving s b) (sym (cond-true _ _ _ (eq-eqb l.from s e))))
-    (λ n. cond-false _ _ _ (ne_eqb l.from s n) ∙ leaving-append s a b ∙ ap (λ x. x ++ leaving s b) (sym (cond-false _ _ _ (ne_eqb l.from s n)))) (cases_eq l.from s)
+leaving-append s a b = filter-append (λ l. eqb l.from s) a b
 
 slot_own : (names : List (List ℕ)) (s : ℕ) (x : Slot) → leaving s (as_lines names (slot_moves s x)) ≡ as_lines names (slot_moves s x)
 slot_own names s None = refl
@@ -120,35 +118,30 @@ leaving-is M names (suc n) s h =
 met-none : (names : List (List ℕ)) (ms : List Move) → all_have_names names ms ≡ true → met names (as_lines names ms) ≡ names
 met-none names [] h = refl
 met-none names (m ∷ ms) h =
-    let q = and_parts (is_some (slice_get names m.action)) (all_have_names names ms) h in
-    ap (λ x. met x (as_lines names ms)) (cond-true _ _ _ (known_at names m.action q.0)) ∙ met-none names ms q.1
+    let q = and_parts (is_some (slice_get names m.label)) (all_have_names names ms) h in
+    ap (λ x. met x (as_lines names ms)) (cond-true _ _ _ (known_at names m.label q.0)) ∙ met-none names ms q.1
 
 -- all transitions of a state have names where all of the model have
-have_left : (names : List (List ℕ)) (a b : List Move) → all_have_names names (a ++ b) ≡ true → all_have_names names a ≡ true
-have_left names [] b h = refl
-have_left names (m ∷ a) b h = let q = and_parts (is_some (slice_get names m.action)) (all_have_names names (a ++ b)) h in and_from _ _ q.0 (have_left names a b q.1)
-
-have_right : (names : List (List ℕ)) (a b : List Move) → all_have_names names (a ++ b) ≡ true → all_have_names names b ≡ true
-have_right names [] b h = h
-have_right names (m ∷ a) b h = have_right names a b (and_parts (is_some (slice_get names m.action)) (all_have_names names (a ++ b)) h).1
+have_both : (names : List (List ℕ)) (a b : List Move) → all_have_names names (a ++ b) ≡ true → (all_have_names names a ≡ true) × (all_have_names names b ≡ true)
+have_both names a b h = and_parts (all_have_names names a) (all_have_names names b) (sym (list_all-append (λ m. is_some (slice_get names m.label)) a b) ∙ h)
 
 have_of : (M : Lts) (names : List (List ℕ)) (n s : ℕ) → s < n → all_have_names names (moves_below M n) ≡ true → all_have_names names (moves_of M s) ≡ true
 have_of M names zero s l h = absurd (omega arith)
 have_of M names (suc n) s l h =
-    ⊎_elim (λ k. have_of M names n s k (have_left names (moves_below M n) (moves_of M n) h))
-    (λ k. let e : n ≡ s = omega arith in ap (λ x. all_have_names names (moves_of M x)) (sym e) ∙ have_right names (moves_below M n) (moves_of M n) h) (cases_lt s n)
+    ⊎_elim (λ k. have_of M names n s k ((have_both names (moves_below M n) (moves_of M n) h).0))
+    (λ k. let e : n ≡ s = omega arith in ap (λ x. all_have_names names (moves_of M x)) (sym e) ∙ (have_both names (moves_below M n) (moves_of M n) h).1) (cases_lt s n)
 
 -- a cell holds the transition that its line came from
 cell_back : (names : List (List ℕ)) (ms : List Move) (k : ℕ) → lawful names ≡ true → all_have_names names ms ≡ true →
-    slot_of (cell_or_blank names (slice_get (as_lines names ms) k)) ≡ option_map (λ m. (m.action, m.to)) (slice_get ms k)
+    slot_of (cell_or_blank names (slice_get (as_lines names ms) k)) ≡ option_map (λ m. (m.label, m.to)) (slice_get ms k)
 cell_back names [] k law h = refl
 cell_back names (m ∷ ms) zero law h =
-    let q = and_parts (is_some (slice_get names m.action)) (all_have_names names ms) h in
-    ap (λ o. Some (unwrap_or o 0, m.to)) (action_at names m.action law q.0)
-cell_back names (m ∷ ms) (suc k) law h = cell_back names ms k law (and_parts (is_some (slice_get names m.action)) (all_have_names names ms) h).1
+    let q = and_parts (is_some (slice_get names m.label)) (all_have_names names ms) h in
+    ap (λ o. Some (unwrap_or o 0, m.to)) (action_at names m.label law q.0)
+cell_back names (m ∷ ms) (suc k) law h = cell_back names ms k law (and_parts (is_some (slice_get names m.label)) (all_have_names names ms) h).1
 
 -- cells that hold transitions of the model are sound
-within-at : (M : Lts) (ms : List Move) (k : ℕ) → Each (Inside M) ms → named_within M.states (option_map (λ m. (m.action, m.to)) (slice_get ms k)) ≡ true
+within-at : (M : Lts) (ms : List Move) (k : ℕ) → Each (Inside M) ms → named_within M.states (option_map (λ m. (m.label, m.to)) (slice_get ms k)) ≡ true
 within-at M [] k ends = refl
 within-at M (m ∷ ms) zero (and p ps) = and_from _ _ (lt-ltb _ _ p.1) (lt-ltb _ _ p.2)
 within-at M (m ∷ ms) (suc k) (and p ps) = within-at M ms k ps
@@ -234,8 +227,8 @@ module _ (M : Lts) (before : Labels) (room w size : ℕ) (ok : write_answer M (l
 
   not_refused : verdict 65536 w size names (header_for M) ls ≡ Ok (header_for M)
   not_refused =
-      cond-false _ _ _ (not_from_true _ (and_from _ _ head_ok (lines-within M names (moves M) inside)))
-      ∙ cond-false _ _ _ (le-ltb size (M.states * w) enough) ∙ cond-false _ _ _ (not_from_true _ roomy)
+      ap (settled 65536 w size (header_for M)) (cond-true _ _ _ (lines-within M names (moves M) inside) ∙ cond-true _ _ _ roomy)
+      ∙ cond-false _ _ _ (not_from_true _ head_ok) ∙ cond-false _ _ _ (le-ltb size (M.states * w) enough)
 
 pub reads-back : ReadsBack
 reads-back M before after room w cells cells' r ok some wide few enough read = record {
@@ -264,7 +257,7 @@ reads-back M before after room w cells cells' r ok some wide few enough read = r
     filled : Filled M.states w (listed after) (as_lines (listed before) (moves M)) cells cells'
     filled = read.filled (header_for M) (as_lines (listed before) (moves M)) the_form answer
 
-    slots : (s k : ℕ) → s < M.states → k < w → slot_of (get_or cells' (s * w + k) blank) ≡ option_map (λ m. (m.action, m.to)) (slice_get (moves_of M s) k)
+    slots : (s k : ℕ) → s < M.states → k < w → slot_of (get_or cells' (s * w + k) blank) ≡ option_map (λ m. (m.label, m.to)) (slice_get (moves_of M s) k)
     slots s k h j =
         ap slot_of (filled.slots s k h j)
         ∙ ap (λ n. slot_of (cell_or_blank n (slice_get (leaving s (as_lines (listed before) (moves M))) k))) labels

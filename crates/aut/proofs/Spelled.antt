@@ -32,7 +32,7 @@ is_name-at [] a h k = absurd (both_ways false refl k)
 is_name-at (x ∷ xs) zero h k = (and_parts (is_name x) (all_names xs) h).0
 is_name-at (x ∷ xs) (suc a) h k = is_name-at xs a (and_parts (is_name x) (all_names xs) h).1 k
 
-same_itself : (x : List ℕ) → bytes_eq x x ≡ true
+pub same_itself : (x : List ℕ) → bytes_eq x x ≡ true
 same_itself x = (bytes_eq-Decides x x).1 refl
 
 pub known_at : (xs : List (List ℕ)) (a : ℕ) → is_some (slice_get xs a) ≡ true → known (name_at xs a) xs ≡ true

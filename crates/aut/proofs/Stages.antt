@@ -2,6 +2,7 @@
 use Rattle.std.proofs.Common.{◌≡◌, ℕ, suc, ◌+◌, ◌-◌, ◌*◌, ◌<◌, ◌≤◌, Bool, true, false, cond, not, ◌&&◌, ◌||◌, eqb, ltb, leb, List, [], ◌∷◌, ◌++◌, length, get_or, Some, None, Option, sym, refl, ap, ◌∙◌, subst, ⊎_elim, arith}
 use Rattle.std.specs.Option.{option_map, option_and_then}
 use Rattle.std.proofs.lemmas.List.{append_assoc, append-nil, length_push}
+use Rattle.std.proofs.lemmas.Option.{none-some}
 use Rattle.std.proofs.lemmas.Bool.{ltb-true, leb-true, eqb-true, eqb-false, lt-ltb, le-leb, le-ltb, eq-eqb, ne_eqb, and_parts, and_from, and_left, and_right, not_from_true, not_from_false, cases_eq, cases_lt, or_left, both_ways, cond-true, cond-false, cond_both}
 use Rattle.std.proofs.lemmas.Bool.Decides.{nat_tests}
 use Rattle.base.specs.Names.{letter, digit, name_byte, name_bytes, is_name}
@@ -27,7 +28,7 @@ Arrives o t r = go_on o t (λ z. scan_on z t) ≡ Some r
 
 -- None is never Some
 pub no_way : {X : Type 0} (A : Type 0) {x : X} → None ≡ Some x → A
-no_way A e = let z : ◌≡◌ {A = ℕ} 0 1 = cc in absurd (omega arith)
+no_way A e = absurd (none-some _ e)
 
 onward : (s : State) (t : List ℕ) {r : Place} → at_line s.field ≡ false → Arrives (Some s) t r → Reads s t r
 onward s t o e = sym (cond-false _ _ _ o) ∙ e

@@ -15,7 +15,7 @@ use Rattle.aut.specs.Writing.{Move, moves, moves_of, name_at, text_of, write_ans
 
 -- a transition of a model, as a line of the text has it
 abbrev pub as_line : List (List ℕ) → Move → Transition
-as_line names m = record { from = m.from; label = name_at names m.action; to = m.to }
+as_line names m = record { from = m.from; label = name_at names m.label; to = m.to }
 
 abbrev pub as_lines : List (List ℕ) → List Move → List Transition
 as_lines names ms = map (as_line names) ms
@@ -29,7 +29,7 @@ header_for M = record { start = M.start; transitions = length (moves M); states 
 pub record Back (M : Lts) (w : ℕ) (before after : Labels) (cells : List Cell) (r : Result Header Refusal) : Type 0 where
   pub answer : r ≡ Ok (header_for M)
   pub labels : listed after ≡ listed before
-  pub slots : (s k : ℕ) → s < M.states → k < w → slot_of (slice_index_or cells (s * w + k) blank) ≡ option_map (λ m. (m.action, m.to)) (slice_get (moves_of M s) k)
+  pub slots : (s k : ℕ) → s < M.states → k < w → slot_of (slice_index_or cells (s * w + k) blank) ≡ option_map (λ m. (m.label, m.to)) (slice_get (moves_of M s) k)
   pub grid : grid_refusal cells M.states w M.start ≡ None
 
 -- A model with at most S transitions a state is written, and its text is read with the same label list into enough cells.

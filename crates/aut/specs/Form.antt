@@ -1,22 +1,20 @@
 -- The AUT form: what the lines of a text are.
-use Rattle.std.specs.Prelude.{◌≡◌, ℕ, ◌+◌, ◌-◌, ◌*◌, ◌≤◌, Bool, true, ◌&&◌, List, [], ◌∷◌, ◌++◌, length, codes, slice_index_or}
+use Rattle.std.specs.Prelude.{◌≡◌, ℕ, ◌+◌, ◌-◌, ◌*◌, ◌≤◌, Bool, true, List, [], ◌∷◌, ◌++◌, length, codes, slice_index_or}
+use Rattle.std.specs.List.{fold, list_all}
 use Rattle.base.specs.Names.{digit, is_name}
 use Rattle.aut.specs.declared.header.Header.{Header}
+use Rattle.aut.specs.declared.transition.Edge.{Edge}
 
 -- a transition as a line has it: a state, a label and a state
-pub record Transition : Type 0 where
-  pub from : ℕ
-  pub label : List ℕ
-  pub to : ℕ
+abbrev pub Transition : Type 0
+Transition = Edge (List ℕ)
 
 abbrev pub all_digits : List ℕ → Bool
-all_digits [] = true
-all_digits (b ∷ bs) = digit b && all_digits bs
+all_digits bs = list_all digit bs
 
 -- the number that digits write, after a number that is read already
 abbrev pub worth : ℕ → List ℕ → ℕ
-worth n [] = n
-worth n (b ∷ bs) = worth (n * 10 + (b - 48)) bs
+worth n bs = fold (λ m b. m * 10 + (b - 48)) n bs
 
 -- A numeral: base ten, 1 to 5 digits, no needless leading zero.
 pub record Numeral (text : List ℕ) (n : ℕ) : Type 0 where

@@ -3,7 +3,8 @@ use Rattle.std.specs.Prelude.{◌≡◌, ◌∷◌, List, [], Some, None, Ok, Er
 use Rattle.std.specs.Option.{option_map}
 use Rattle.base.specs.declared.refusal.Refusal.{Refusal}
 use Rattle.base.specs.declared.refusal.Refusal.TheVariants.{Garbled}
-use Rattle.aut.specs.declared.header.Line.{Line}
+use Rattle.base.specs.declared.name.Name.{Name}
+use Rattle.aut.specs.declared.transition.Edge.{Edge}
 use Rattle.aut.specs.declared.lines.Lines.{Lines}
 use Rattle.aut.specs.Form.{Transition}
 use Rattle.aut.specs.Scanning.{lines_of}
@@ -14,7 +15,7 @@ abbrev pub lines_left : Lines → Option (List Transition)
 lines_left s = lines_of s.left s.text.now
 
 -- What the next item says of the lines before and after it: there is none, there is a line, or the text is not of the form.
-abbrev pub TakesLine : Lines → Option (Result Line Refusal) → Lines → Type 0
+abbrev pub TakesLine : Lines → Option (Result (Edge Name) Refusal) → Lines → Type 0
 TakesLine s None t = lines_left s ≡ Some []
 TakesLine s (Some (Ok l)) t = lines_left s ≡ option_map (λ ls. line_of l ∷ ls) (lines_left t)
 TakesLine s (Some (Err e)) t = (lines_left s ≡ None) × (e ≡ Garbled)

@@ -141,10 +141,18 @@ abbrev pub scan_on : State → List ℕ → Option (State × List ℕ)
 scan_on s [] = None
 scan_on s (b ∷ t) = go_on (next s b) t (λ z. scan_on z t)
 
+-- line one, and what follows it
+abbrev pub first_line : List ℕ → Option (Header × List ℕ)
+first_line t = option_map (λ p. (p.0.head, p.1)) (scan_on (begin D) t)
+
+-- a further line, and what follows it
+abbrev pub next_line : List ℕ → Option (Transition × List ℕ)
+next_line t = option_map (λ p. (p.0.line, p.1)) (scan_on (begin Open) t)
+
 -- as many lines as are to come, and nothing after them
-abbrev pub with_line : Option (State × List ℕ) → (List ℕ → Option (List Transition)) → Option (List Transition)
+abbrev pub with_line : Option (Transition × List ℕ) → (List ℕ → Option (List Transition)) → Option (List Transition)
 with_line None more = None
-with_line (Some p) more = option_map (λ ls. p.0.line ∷ ls) (more p.1)
+with_line (Some p) more = option_map (λ ls. p.0 ∷ ls) (more p.1)
 
 abbrev pub at_end : List ℕ → Option (List Transition)
 at_end [] = Some []
@@ -152,12 +160,12 @@ at_end (b ∷ t) = None
 
 abbrev pub lines_of : ℕ → List ℕ → Option (List Transition)
 lines_of zero t = at_end t
-lines_of (suc m) t = with_line (scan_on (begin Open) t) (lines_of m)
+lines_of (suc m) t = with_line (next_line t) (lines_of m)
 
 -- the whole text: line one, and the lines that it announces
-abbrev pub with_head : Option (State × List ℕ) → Option (Header × List Transition)
+abbrev pub with_head : Option (Header × List ℕ) → Option (Header × List Transition)
 with_head None = None
-with_head (Some p) = option_map (λ ls. (p.0.head, ls)) (lines_of p.0.head.transitions p.1)
+with_head (Some p) = option_map (λ ls. (p.0, ls)) (lines_of p.0.transitions p.1)
 
 abbrev pub form_of : List ℕ → Option (Header × List Transition)
-form_of text = with_head (scan_on (begin D) text)
+form_of text = with_head (first_line text)

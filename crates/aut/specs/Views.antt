@@ -1,14 +1,15 @@
 -- What the reader's values stand for.
 use Rattle.std.specs.Prelude.{ℕ, List}
 use Rattle.base.specs.Listing.{spelled}
-use Rattle.aut.specs.declared.header.Line.{Line}
+use Rattle.base.specs.declared.name.Name.{Name}
+use Rattle.aut.specs.declared.transition.Edge.{Edge}
 use Rattle.aut.specs.declared.scan.Scan.{Scan}
 use Rattle.aut.specs.Form.{Transition}
 use Rattle.aut.specs.Scanning.{State}
 use Rattle.aut.specs.Laying.{Laid}
 use Rattle.model.specs.declared.cell.Cell.{Cell}
 
-abbrev pub line_of : Line → Transition
+abbrev pub line_of : Edge Name → Transition
 line_of l = record { from = l.from; label = spelled l.label; to = l.to }
 
 abbrev pub view : Scan → State

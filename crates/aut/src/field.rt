@@ -1,6 +1,8 @@
 ghost use Rattle.std.specs.Prelude.{◌≡◌};
 ghost use Rattle.aut.specs.Scanning.{turn_of};
 
+use base::spelling::{is_letter, is_name_byte};
+
 // The part of a line that is being read: of line one, `des (I,M,N)`, and of the others, `(s,"label",t)`. A gap is where one space may stand.
 #[derive(Clone, Copy, PartialEq, Eq)]
 pub(crate) enum Field {
@@ -70,8 +72,8 @@ pub(crate) fn byte_means(field: Field, byte: u8) -> Option<Turn>
         (Field::From, b',') => Turn::Store(Part::Source, Field::LabelGap),
         (Field::LabelGap, b' ') => Turn::Next(Field::Quote),
         (Field::LabelGap | Field::Quote, b'"') => Turn::Next(Field::Initial),
-        (Field::Initial, b'a'..=b'z') => Turn::Letter,
-        (Field::Label, b'a'..=b'z' | b'0'..=b'9' | b'_') => Turn::Letter,
+        (Field::Initial, byte) if is_letter(byte) => Turn::Letter,
+        (Field::Label, byte) if is_name_byte(byte) => Turn::Letter,
         (Field::Label, b'"') => Turn::Next(Field::Comma),
         (Field::Comma, b',') => Turn::Next(Field::ToGap),
         (Field::ToGap, b' ') => Turn::Next(Field::To),

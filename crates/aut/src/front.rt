@@ -1,10 +1,9 @@
 ghost use Rattle.std.specs.Prelude.{◌≡◌, ℕ, suc, ◌-◌, ◌≤◌, length, Some, None, MatchOption};
 ghost use Rattle.aut.specs.Front.{lines_length, FirstLine, ModelFront, FrontRead};
 
-use crate::field::Field;
 use crate::header::Header;
 use crate::reader::read_within;
-use crate::scanning::scan_line;
+use crate::scan::first_line;
 use base::labels::Labels;
 use base::refusal::Refusal;
 use model::cell::Cell;
@@ -33,8 +32,8 @@ fn skip_lines(text: &[u8], lines: usize) -> Option<&[u8]>
 pub fn front_length(input: &[u8]) -> Option<usize>
     ensures { MatchOption result ((n : ℕ) → ModelFront input.now n → ⊥) (λ n. ModelFront input.now n × ((m : ℕ) → ModelFront input.now m → m ≡ n) × (n ≤ length input.now)) }
 {
-    let (first, body) = scan_line(input, Field::D)?;
-    let rest = skip_lines(body, first.header.transitions)?;
+    let (header, body) = first_line(input)?;
+    let rest = skip_lines(body, header.transitions)?;
     Some(input.len() - rest.len())
 }
 

@@ -1,5 +1,3 @@
-use base::name::Name;
-
 // The most transitions that a text may have.
 pub(crate) const MOST_TRANSITIONS: usize = 65_536;
 
@@ -9,12 +7,4 @@ pub struct Header {
     pub start: usize,
     pub transitions: usize,
     pub states: usize,
-}
-
-// One transition as a line has it.
-#[derive(Clone, Copy)]
-pub(crate) struct Line {
-    pub(crate) from: usize,
-    pub(crate) label: Name,
-    pub(crate) to: usize,
 }

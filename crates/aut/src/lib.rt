@@ -3,6 +3,7 @@
 
 pub mod agree;
 pub mod copy;
+mod counts;
 mod field;
 pub mod front;
 pub mod header;
@@ -13,13 +14,9 @@ mod plan;
 mod putting;
 pub mod reader;
 mod scan;
-mod scanning;
 mod shape;
-mod shaping;
 mod survey;
-mod surveying;
 mod tally;
-mod tallying;
 mod transition;
 mod walk;
 pub mod writer;

@@ -3,9 +3,9 @@ ghost use Rattle.std.specs.Iterator.{at_most};
 ghost use Rattle.aut.specs.Scanning.{lines_of};
 ghost use Rattle.aut.specs.Lines.{lines_left, TakesLine};
 
-use crate::field::Field;
-use crate::header::{Header, Line};
-use crate::scanning::scan_line;
+use crate::header::Header;
+use crate::scan::next_line;
+use crate::transition::Line;
 use base::refusal::Refusal;
 
 // The lines after line one, as many as it announces. A line that is not of the form is refused, and so is text after the last.
@@ -39,11 +39,11 @@ impl<'a> Iterator for Lines<'a> {
             return None;
         }
         if self.left > 0
-            && let Some((scan, rest)) = scan_line(self.text, Field::Open)
+            && let Some((line, rest)) = next_line(self.text)
         {
             self.text = rest;
             self.left -= 1;
-            return Some(Ok(scan.line));
+            return Some(Ok(line));
         }
         *self = Lines { text: &[], left: 0 };
         Some(Err(Refusal::Garbled))

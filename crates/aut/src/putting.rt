@@ -1,6 +1,6 @@
 ghost use Rattle.std.specs.Prelude.{◌≡◌, ◌≤◌, IfSome, length, decimal};
 ghost use Rattle.base.specs.Labels.{listed};
-ghost use Rattle.aut.specs.Writing.{line_length, move_text, head_of};
+ghost use Rattle.aut.specs.Writing.{line_length, move_text, head_of, most_digits, longest_line, longest_head};
 
 use crate::header::Header;
 use crate::pen::Pen;
@@ -8,10 +8,15 @@ use crate::transition::Move;
 use base::labels::Labels;
 use itoa::Buffer;
 
+// How many bytes of a line, and of line one, are neither of a number nor of a name.
+const LINE_MARKS: usize = b"(,\"\",)\n".len();
+
+const HEAD_MARKS: usize = b"des (,,)\n".len();
+
 // How many digits a number has.
 fn number_length(number: usize) -> usize
     ensures long { result ≡ length (decimal number) }
-    ensures few { result ≤ 20 }
+    ensures few { result ≤ most_digits }
 {
     number
         .checked_ilog10()
@@ -21,21 +26,21 @@ fn number_length(number: usize) -> usize
 // How long the line of a transition is, if its action has a name.
 pub(crate) fn line_length(labels: &Labels, line: Move) -> Option<usize>
     ensures long { result ≡ line_length (listed labels.now) line }
-    ensures few { IfSome result (λ n. n ≤ 63) }
+    ensures few { IfSome result (λ n. n ≤ longest_line) }
 {
-    let name = labels.name_of(line.action)?;
-    Some(number_length(line.from) + name.len() + number_length(line.to) + 7)
+    let name = labels.name_of(line.label)?;
+    Some(number_length(line.from) + name.len() + number_length(line.to) + LINE_MARKS)
 }
 
 // How long line one is.
 pub(crate) fn head_length(header: Header) -> usize
     ensures long { result ≡ length (head_of header) }
-    ensures few { result ≤ 69 }
+    ensures few { result ≤ longest_head }
 {
     number_length(header.start)
         + number_length(header.transitions)
         + number_length(header.states)
-        + 9
+        + HEAD_MARKS
 }
 
 impl Pen<'_> {
@@ -71,7 +76,7 @@ impl Pen<'_> {
             b"(",
             from.format(line.from).as_bytes(),
             b",\"",
-            labels.name_of(line.action).unwrap_or(&[]),
+            labels.name_of(line.label).unwrap_or(&[]),
             b"\",",
             to.format(line.to).as_bytes(),
             b")\n",

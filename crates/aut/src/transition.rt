@@ -1,7 +1,15 @@
-// A transition of a model: from a state, by an action, to a state.
+use base::name::Name;
+
+// A transition: from a state, by a label, to a state.
 #[derive(Clone, Copy)]
-pub(crate) struct Move {
+pub(crate) struct Edge<L> {
     pub(crate) from: usize,
-    pub(crate) action: u8,
+    pub(crate) label: L,
     pub(crate) to: usize,
 }
+
+// One as a line of the text has it, by a name.
+pub(crate) type Line = Edge<Name>;
+
+// One as a model has it, by an action.
+pub(crate) type Move = Edge<u8>;

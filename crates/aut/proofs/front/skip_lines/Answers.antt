@@ -1,11 +1,6 @@
-use Rattle.std.proofs.Common.{length, sym, ◌∙◌, arith}
-use Rattle.aut.proofs.Fronts.{further, broken}
+use Rattle.std.proofs.Common.{length, ◌∙◌, arith}
+use Rattle.aut.proofs.Fronts.{further}
 use Rattle.aut.proofs.front.skip_lines.Goals as goal
-
-pub returns-in_err-rest : goal.returns-in_err-rest
-returns-in_err-rest c =
-    rw c.from_residual.ensures
-    (sym c.loop.invariant.left ∙ broken (length c.args.text.now) c.args.lines c.loop.counter c.loop.rest.now c.loop-test.true c.in_err-rest.ensures)
 
 pub loop-preserved : goal.loop-preserved
 loop-preserved c =

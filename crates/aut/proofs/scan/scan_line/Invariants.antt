@@ -1,7 +1,7 @@
 use Rattle.std.proofs.Common.{◌≡◌, length}
 use Rattle.aut.specs.Scanning.{begin, scan_on}
 use Rattle.aut.specs.Views.{view}
-use Rattle.aut.proofs.scanning.scan_line.Given as goal
+use Rattle.aut.proofs.scan.scan_line.Given as goal
 
 abbrev pub invariant-loop-byte : goal.invariant-loop-byte
 invariant-loop-byte l = scan_on (view l.scan) l.rest ≡ scan_on (begin l.fn.field) l.fn.text
