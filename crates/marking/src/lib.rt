@@ -3,8 +3,7 @@
 
 pub mod count;
 pub mod decoded;
-mod gate;
-mod gates;
+mod marks;
 pub mod node;
 mod operator;
 mod part;
