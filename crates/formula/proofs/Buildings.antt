@@ -5,7 +5,7 @@ use Rattle.base.specs.declared.action_set.ActionSet.{ActionSet}
 use Rattle.formula.specs.declared.built.Found.{Found}
 use Rattle.formula.specs.declared.built.Level.{Level}
 use Rattle.formula.specs.declared.built.Level.TheVariants as level
-use Rattle.formula.specs.declared.built.Part.{Part}
+use Rattle.formula.specs.declared.node.Part.{Part}
 use Rattle.formula.specs.declared.cursor.Cursor.{Cursor}
 use Rattle.formula.specs.declared.mark.Link.{Link}
 use Rattle.formula.specs.declared.mark.Mark.{Mark}

@@ -4,7 +4,7 @@ use Rattle.base.specs.Labels.{listed}
 use Rattle.formula.specs.declared.built.Found.{Found}
 use Rattle.formula.specs.declared.built.Level.{Level}
 use Rattle.formula.specs.declared.built.Level.TheVariants as level
-use Rattle.formula.specs.declared.built.Part.{Part}
+use Rattle.formula.specs.declared.node.Part.{Part}
 use Rattle.formula.specs.declared.cursor.Cursor.{Cursor}
 use Rattle.formula.specs.declared.nodes.Draft.{Draft}
 use Rattle.formula.specs.Choosing.{IsSet}
@@ -27,7 +27,7 @@ BuildsBy c before after F r = Finds (Laid (listed c.labels.now) before after) c 
 
 -- a part: the actions of its action formula too
 abbrev pub LaidPart : List (List ℕ) → Draft → Draft → Acts × Tree → Part → Type 0
-LaidPart names before after p y = Laid names before after p.1 y.root × IsSet names p.0 y.actions
+LaidPart names before after p y = Laid names before after p.1 y.child × IsSet names p.0 y.actions
 
 abbrev pub BuildsPart : Cursor → Draft → Draft → (Reader Tree → List Tok → Got (Acts × Tree)) → Option (Found Part) → Type 0
 BuildsPart c before after F r = Finds (LaidPart (listed c.labels.now) before after) c 3 (λ n. F (read formula_rules n)) r

@@ -30,8 +30,8 @@ shape node.False = false_node
 shape (node.Not k) = not_node k
 shape (node.And k m) = and_node k m
 shape (node.Or k m) = or_node k m
-shape (node.Short o c k) = short_node o (holds c) k
-shape (node.Path q l c k d m) = path_node q l (holds c) k (holds d) m
+shape (node.Short o p) = short_node o (holds p.actions) p.child
+shape (node.Path q l p r) = path_node q l (holds p.actions) p.child (holds r.actions) r.child
 
 -- the nodes in use
 abbrev pub shapes : Nodes → List Shape

@@ -1,7 +1,14 @@
 use crate::mark::{Link, Operator, Quantifier};
 use base::action_set::ActionSet;
 
-// A node of a formula: TRUE, FALSE, NOT, AND, OR, or an operator with the actions and the formula of each part. Formulas below it stand as numbers of nodes.
+// A part of an operator: the actions of its steps, and the number of the formula of the states that they reach.
+#[derive(Clone, Copy)]
+pub struct Part {
+    pub actions: ActionSet,
+    pub child: usize,
+}
+
+// A node of a formula: TRUE, FALSE, NOT, AND, OR, or an operator with its parts. Formulas below it stand as numbers of nodes.
 #[derive(Clone, Copy)]
 pub enum Node {
     True,
@@ -11,15 +18,12 @@ pub enum Node {
     Or(usize, usize),
     Short {
         operator: Operator,
-        actions: ActionSet,
-        child: usize,
+        part: Part,
     },
     Path {
         quantifier: Quantifier,
         link: Link,
-        first: ActionSet,
-        left: usize,
-        second: ActionSet,
-        right: usize,
+        first: Part,
+        second: Part,
     },
 }

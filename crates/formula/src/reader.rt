@@ -7,10 +7,10 @@ ghost use Rattle.formula.specs.Reading.{OrLevel, AndLevel, Tight, then, if_there
 ghost use Rattle.formula.specs.Trees.{Acts, NOT, short};
 ghost use Rattle.formula.specs.declared.mark.Sign.TheVariants.{BracketOpen};
 
-use crate::built::{Found, Level, Part};
+use crate::built::{Found, Level};
 use crate::cursor::Cursor;
 use crate::mark::{Mark, Operator, Quantifier, Sign};
-use crate::node::Node;
+use crate::node::{Node, Part};
 use crate::nodes::Draft;
 use base::action_set::ActionSet;
 
@@ -101,8 +101,7 @@ impl Cursor<'_> {
         let inner = self.part(Level::Tight, draft)?;
         let node = Node::Short {
             operator,
-            actions: inner.value.actions,
-            child: inner.value.root,
+            part: inner.value,
         };
         Some(Found {
             value: draft.put(node),
@@ -123,10 +122,8 @@ impl Cursor<'_> {
         let node = Node::Path {
             quantifier,
             link,
-            first: first.value.actions,
-            left: first.value.root,
-            second: second.value.actions,
-            right: second.value.root,
+            first: first.value,
+            second: second.value,
         };
         Some(Found {
             value: draft.put(node),
@@ -160,9 +157,9 @@ impl Cursor<'_> {
         if self.can_begin() {
             return self.with_formula(actions, level, draft);
         }
-        let root = draft.put(Node::True);
+        let child = draft.put(Node::True);
         Some(Found {
-            value: Part { actions, root },
+            value: Part { actions, child },
             end: self.at,
         })
     }
@@ -181,7 +178,7 @@ impl Cursor<'_> {
         Some(Found {
             value: Part {
                 actions,
-                root: inner.value,
+                child: inner.value,
             },
             end: inner.end,
         })

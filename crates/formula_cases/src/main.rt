@@ -6,7 +6,7 @@ use base::action_set::ActionSet;
 use base::labels::Labels;
 use base::refusal::Refusal;
 use formula::enter::enter;
-use formula::node::Node;
+use formula::node::{Node, Part};
 use formula::nodes::Nodes;
 use std::alloc::{AllocError, Global};
 use std::{fmt, io};
@@ -60,6 +60,17 @@ impl fmt::Display for Actions {
     }
 }
 
+// A part as it is printed.
+#[derive(Clone, Copy)]
+struct Reached(Part);
+
+impl fmt::Display for Reached {
+    fn fmt<W: fmt::Write>(&self, f: &mut fmt::Formatter<W>) -> fmt::Result {
+        let Reached(part) = *self;
+        write!(f, "{} {}", Actions(part.actions), part.child)
+    }
+}
+
 // A node as it is printed.
 #[derive(Clone, Copy)]
 struct Shown(Node);
@@ -73,22 +84,16 @@ impl fmt::Display for Shown {
             Node::Not(child) => write!(f, "NOT {child}"),
             Node::And(left, right) => write!(f, "AND {left} {right}"),
             Node::Or(left, right) => write!(f, "OR {left} {right}"),
-            Node::Short {
-                operator,
-                actions,
-                child,
-            } => write!(f, "{operator}{} {child}", Actions(actions)),
+            Node::Short { operator, part } => write!(f, "{operator}{}", Reached(part)),
             Node::Path {
                 quantifier,
                 link,
                 first,
-                left,
                 second,
-                right,
             } => {
-                let first = Actions(first);
-                let second = Actions(second);
-                write!(f, "{quantifier}[{first} {left} {link} {second} {right}]")
+                let first = Reached(first);
+                let second = Reached(second);
+                write!(f, "{quantifier}[{first} {link} {second}]")
             }
         }
     }

@@ -50,7 +50,7 @@ Cursor::one_part-returns t c =
       (λ n h. ap (λ g. then g (λ p rest. Some (short c.args.operator p.0 p.1, rest))) (d.1 n h)),
       (
         layings.laid-short (listed c.args.self.now.labels.now) c.args.operator u.0 u.1 y.actions (drafted c.args.draft.now) (drafted c.part.new.draft)
-            (drafted c.put.new.self) y.root d.2.1 d.2.0.0 d.2.0.1 c.put.ensures.after,
+            (drafted c.put.new.self) y.child d.2.1 d.2.0.0 d.2.0.1 c.put.ensures.after,
         c.put.ensures.number,
       ),
       d.3,
@@ -69,7 +69,7 @@ Cursor::two_parts-returns t c =
       buildings.bracketed s q l p u c.in_ok-inside.inside first.end second.end c.in_ok-end.end a.0 a.1 d.1 d.3 e.0 f.1 g.0,
       (
         layings.laid-path (listed s.labels.now) q l p.0 u.0 p.1 u.1 first.value.actions second.value.actions (drafted c.args.draft.now) (drafted c.part.new.draft)
-            (drafted c.part-2.new.draft) (drafted c.put.new.self) first.value.root second.value.root d.2.1 f.2.1 d.2.0.0 d.2.0.1 f.2.0.0 f.2.0.1 c.put.ensures.after,
+            (drafted c.part-2.new.draft) (drafted c.put.new.self) first.value.child second.value.child d.2.1 f.2.1 d.2.0.0 d.2.0.1 f.2.0.0 f.2.0.1 c.put.ensures.after,
         c.put.ensures.number,
       ),
       omega (arith, a.1, d.3, f.3, g.1),
@@ -89,7 +89,7 @@ pub Cursor::after_braces-returns : goal.Cursor::after_braces-returns
 Cursor::after_braces-returns t c = λ k h. (
   (k, TRUE),
   (λ n m. buildings.none_follows c.args.level k (ahead c.args.self.now) n c.if-can_begin.ensures),
-  ((c.put-root.ensures.after, c.put-root.ensures.number), h),
+  ((c.put-child.ensures.after, c.put-child.ensures.number), h),
   omega arith,
 )
 
