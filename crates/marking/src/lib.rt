@@ -5,7 +5,6 @@ pub mod count;
 pub mod decoded;
 mod marks;
 pub mod node;
-mod operator;
 mod part;
 mod path_formula;
 mod search;
