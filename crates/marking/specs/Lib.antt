@@ -1,6 +1,6 @@
 pub mod Meant
 pub mod Steps
-pub mod Gates
+pub mod Writes
 pub mod Sweeps
 pub mod Operators
 pub mod Marking

@@ -3,10 +3,8 @@
 
 pub mod count;
 pub mod decoded;
-mod gate;
-mod gates;
+mod marks;
 pub mod node;
-mod operator;
 mod part;
 mod path_formula;
 mod search;

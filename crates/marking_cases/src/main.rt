@@ -27,16 +27,23 @@ use std::{array, io};
 // No model here has more states.
 const MOST_STATES: usize = 16;
 
-// Room for the joined model as text, and for its cells.
+// Room for the joined model as text.
 const ROOM: usize = 4_096;
 
+// Room for the cells of a model.
 const CELLS: usize = 256;
 
+// A row of two bytes for each sheet of a shelf of bits.
+const BYTES: usize = 128;
+
+// A measurement is sent, added, and acknowledged or lost.
 const UPLOAD: &[u8] =
     b"des (0,5,4)\n(0,\"meas\",1)\n(1,\"send\",2)\n(2,\"add\",3)\n(3,\"ack\",0)\n(3,\"lost\",1)\n";
 
+// Two states, of which the second has no step.
 const LINE: &[u8] = b"des (0,1,2)\n(0,\"send\",1)\n";
 
+// One state, which has no step.
 const STUCK: &[u8] = b"des (0,0,1)\n";
 
 // Which states are marked, and how many.
@@ -60,7 +67,7 @@ fn mark_all<M: Model, S: Shelf>(model: &M, shelf: &mut S, nodes: &Nodes) -> Resu
 
 // The marks on a shelf of bits and on a shelf of columns, both opened over memory that is not blank.
 fn on_both<M: Model>(model: &M, nodes: &Nodes) -> Result<(Marks, Marks), Refusal> {
-    let mut bytes = [255; 128];
+    let mut bytes = [255; BYTES];
     let mut columns = [u64::MAX; MOST_STATES];
     let mut bits = BitShelf::open(&mut bytes, model.states());
     let by_bits = mark_all(model, &mut bits, nodes)?;
@@ -69,6 +76,7 @@ fn on_both<M: Model>(model: &M, nodes: &Nodes) -> Result<(Marks, Marks), Refusal
     Ok((by_bits, by_columns))
 }
 
+// Prints the marks of the last node on a model, and where the shelves differ.
 fn show<M: Model>(rt: &HostRuntime, name: &str, model: &M, nodes: &Nodes) -> io::Result<()> {
     let (bits, columns) = match on_both(model, nodes) {
         Ok(both) => both,
@@ -95,6 +103,7 @@ struct Models {
     pair: Joined<RetryCounter, RetryCounter>,
 }
 
+// The counter, the joined model of two others, and the names of their actions.
 fn make_models() -> Result<Models, Refusal> {
     let mut labels = Labels::fresh();
     for name in ["meas", "send", "add", "ack", "lost", "quit", "poll", "drop"] {
@@ -119,6 +128,7 @@ struct Held {
 }
 
 impl Held {
+    // The model that line one says, over its cells.
     fn by(header: Header, cells: [Cell; CELLS], slots: usize) -> Held {
         let size = Size {
             states: header.states,
@@ -131,6 +141,7 @@ impl Held {
         }
     }
 
+    // Out of a text.
     fn read(text: &[u8], labels: &mut Labels) -> Result<Held, Refusal> {
         let mut cells = [Cell::EMPTY; CELLS];
         let header = read(text, labels, &mut cells, 2)?;
@@ -146,6 +157,7 @@ impl Held {
         Ok(Held::by(header, cells, slots))
     }
 
+    // Prints the marks of the last node on the grid over the cells.
     fn show(&self, rt: &HostRuntime, name: &str, nodes: &Nodes) -> io::Result<()> {
         match Grid::over(&self.cells, self.size, self.start) {
             Ok(grid) => show(rt, name, &grid, nodes),
@@ -163,6 +175,7 @@ struct Texts {
     pair: Held,
 }
 
+// The texts above, and the joined model as a text.
 fn read_texts(models: &mut Models) -> Result<Texts, Refusal> {
     Ok(Texts {
         upload: Held::read(UPLOAD, &mut models.labels)?,
@@ -172,6 +185,7 @@ fn read_texts(models: &mut Models) -> Result<Texts, Refusal> {
     })
 }
 
+// Prints what the nodes of a formula are on each model.
 fn run(rt: &HostRuntime, models: &Models, nodes: &Nodes, texts: &Texts) -> io::Result<()> {
     texts.upload.show(rt, "upload", nodes)?;
     texts.line.show(rt, "line", nodes)?;
@@ -181,6 +195,7 @@ fn run(rt: &HostRuntime, models: &Models, nodes: &Nodes, texts: &Texts) -> io::R
     texts.pair.show(rt, "pair as a grid", nodes)
 }
 
+// Enters each line as a formula, and prints where it holds.
 fn main(rt: HostRuntime) -> anyhow::Result<()> {
     let mut models = make_models()?;
     let texts = read_texts(&mut models)?;
