@@ -59,9 +59,7 @@ impl Scan {
     fn letter(&mut self, byte: u8) -> Option<()>
         ensures { option_map (λ _. view self.new) result ≡ letter_in byte (view self.old) }
     {
-        if !self.line.label.push(byte) {
-            return None;
-        }
+        self.line.label.push(byte)?;
         self.field = Field::Label;
         Some(())
     }

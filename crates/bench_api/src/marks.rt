@@ -13,10 +13,7 @@ use shelf::shelf::Shelf;
 
 // The nodes of a formula over the actions a, b and c, which are 1, 2 and 3.
 fn nodes_of(text: &[u8]) -> Result<Nodes, Refusal> {
-    let mut labels = Labels::fresh();
-    for name in ["a", "b", "c"] {
-        labels.add(name.as_bytes())?;
-    }
+    let labels = Labels::of(&["a", "b", "c"])?;
     let mut nodes = Nodes::fresh();
     enter(&mut nodes, text, &labels)?;
     Ok(nodes)

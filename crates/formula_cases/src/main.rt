@@ -4,7 +4,6 @@
 
 use base::action_set::ActionSet;
 use base::labels::Labels;
-use base::refusal::Refusal;
 use formula::enter::enter;
 use formula::node::{Node, Part};
 use formula::nodes::Nodes;
@@ -32,14 +31,6 @@ fn decode(heap: Global, line: &str) -> Result<Vec<u8>, AllocError> {
         text.push(byte)?;
         rest = after;
     }
-}
-
-fn names() -> Result<Labels, Refusal> {
-    let mut labels = Labels::fresh();
-    for name in ["a", "b", "c", "abcdefghijklmnop"] {
-        labels.add(name.as_bytes())?;
-    }
-    Ok(labels)
 }
 
 // A set of actions as it is printed: those that it holds, or after a tilde those that it lacks.
@@ -118,7 +109,7 @@ fn run(rt: &HostRuntime, text: &[u8], labels: &Labels) -> io::Result<()> {
 }
 
 fn main(rt: HostRuntime) -> anyhow::Result<()> {
-    let labels = names()?;
+    let labels = Labels::of(&["a", "b", "c", "abcdefghijklmnop"])?;
     for line in rt.lines(rt.alloc()) {
         let line = line?;
         let text = decode(rt.alloc(), line.as_str())?;

@@ -105,10 +105,7 @@ struct Models {
 
 // The counter, the joined model of two others, and the names of their actions.
 fn make_models() -> Result<Models, Refusal> {
-    let mut labels = Labels::fresh();
-    for name in ["meas", "send", "add", "ack", "lost", "quit", "poll", "drop"] {
-        labels.add(name.as_bytes())?;
-    }
+    let labels = Labels::of(&["meas", "send", "add", "ack", "lost", "quit", "poll", "drop"])?;
     let counter = RetryCounter::new(7, 2, 4, 6)?;
     let sender = RetryCounter::new(2, 2, 4, 6)?;
     let poller = RetryCounter::new(2, 7, 4, 8)?;
