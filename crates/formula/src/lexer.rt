@@ -1,7 +1,8 @@
 ghost use Rattle.std.specs.Prelude.{◌≡◌, ℕ, Bool, ◌<◌, ◌≤◌, map, length, IfNone, IfSome, IfOk, IfErr, OnErr};
 ghost use Rattle.std.specs.Iterator.{at_most};
+ghost use Rattle.std.specs.List.{take_while};
 ghost use Rattle.base.specs.declared.refusal.Refusal.TheVariants.{Grammar};
-ghost use Rattle.formula.specs.Tokens.{run, past, sign, word, word_at, name_at, token_at, ended, front, Cuts, Steps, tok, tokens_of};
+ghost use Rattle.formula.specs.Tokens.{past, sign, word, word_at, name_at, token_at, ended, front, Cuts, Steps, tok, tokens_of};
 
 use crate::enter::MOST_BYTES;
 use crate::mark::{Link, Mark, Operator, Quantifier, Sign};
@@ -54,7 +55,7 @@ fn word_of(letters: &[u8]) -> Option<Mark>
 // The longest run of bytes that belong, at the front of a text, and the text after it.
 fn run<F: Fn(u8) -> bool>(text: &[u8], belongs: F) -> (&[u8], &[u8])
     requires { F.IsAlwaysCallable belongs }
-    ensures { (p : ℕ → Bool) → ((b : ℕ) (r : Bool) → F.post belongs b r → r ≡ p b) → (result.0.now ≡ run p text.now) × (result.1.now ≡ past p text.now) }
+    ensures { (p : ℕ → Bool) → ((b : ℕ) (r : Bool) → F.post belongs b r → r ≡ p b) → (result.0.now ≡ take_while p text.now) × (result.1.now ≡ past p text.now) }
 {
     text.split_at(text.iter().take_while(|byte| belongs(**byte)).count())
 }
