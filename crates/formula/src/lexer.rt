@@ -105,13 +105,13 @@ fn past_spaces(text: &[u8]) -> Option<&[u8]>
 
 // The tokens of a text, one after another. Bytes that are no token are refused, and nothing comes after them.
 #[derive(Clone, Copy)]
-pub struct Lexer<'a> {
+pub(crate) struct Lexer<'a> {
     rest: &'a [u8],
 }
 
 impl<'a> Lexer<'a> {
     // Over the whole of a text.
-    pub fn over(text: &'a [u8]) -> Lexer<'a>
+    pub(crate) fn over(text: &'a [u8]) -> Lexer<'a>
         ensures { result.rest.now ≡ text.now }
     {
         Lexer { rest: text }
