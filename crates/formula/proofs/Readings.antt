@@ -1,11 +1,8 @@
 -- The grammar and the reader's way through the tokens agree, so a text is a formula in one way only.
-use Rattle.std.proofs.Common.{◌≡◌, cond, ◌&&◌, [], ◌∷◌, Some, codes, Option, sym, ap, ◌∙◌}
-use Rattle.std.specs.Str.{bytes_eq}
+use Rattle.std.proofs.Common.{◌≡◌, sym, ap, ◌∙◌}
 use Rattle.std.proofs.lemmas.Option.{same_Some}
-use Rattle.base.specs.Listing.{place, all_names, distinct}
-use Rattle.formula.specs.Choosing.{action_is}
 use Rattle.formula.specs.Reading.{tree_of}
-use Rattle.formula.specs.Agreement.{Agreement, OneReading, TauIsSilent}
+use Rattle.formula.specs.Agreement.{Agreement, OneReading}
 use Rattle.formula.proofs.Complete.{tree_in}
 use Rattle.formula.proofs.Sound.{tree_out}
 

@@ -1,4 +1,5 @@
 -- Formulas in a table of nodes, children first.
+-- Nodes and trees have like names, so theirs stand after `node` and `tree`.
 use Rattle.std.specs.Prelude.{ℕ, ◌-◌, cond, List, [], ◌∷◌, ◌++◌, map, length, take, Some, None, Option, nat_lt, slice_index_or}
 use Rattle.std.specs.List.{fold}
 use Rattle.std.specs.Option.{option_map}

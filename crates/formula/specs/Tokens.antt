@@ -1,4 +1,5 @@
 -- The tokens of a text, by longest runs.
+-- The mark that a sign is stands as `signed`, since `Sign` is the type of signs.
 use Rattle.std.specs.Prelude.{◌≡◌, ℕ, zero, suc, Bool, cond, ◌&&◌, List, [], ◌∷◌, length, drop, Some, None, Ok, Err, codes, Option, Result, ◌==◌, nat_le}
 use Rattle.std.specs.List.{prefix_len, take_while}
 use Rattle.std.specs.Option.{option_map}
@@ -9,6 +10,7 @@ use Rattle.base.specs.Listing.{spelled}
 use Rattle.base.specs.declared.refusal.Refusal.{Refusal}
 use Rattle.base.specs.declared.refusal.Refusal.TheVariants.{Grammar}
 use Rattle.formula.specs.declared.mark.Operator.TheVariants.{Ex, Ef, Eg, Ax, Af, Ag}
+-- one of them is named as what an option holds
 use Rattle.formula.specs.declared.mark.Quantifier.TheVariants as quantifier
 use Rattle.formula.specs.declared.mark.Link.TheVariants.{Until, Unless}
 use Rattle.formula.specs.declared.mark.Mark.{Mark}
@@ -16,6 +18,7 @@ use Rattle.formula.specs.declared.mark.Mark.TheVariants.{True, False, Tau, Not, 
 use Rattle.formula.specs.declared.mark.Sign.{Sign}
 use Rattle.formula.specs.declared.mark.Sign.TheVariants.{Open, Close, BracketOpen, BracketClose, BraceOpen, BraceClose, And, Or}
 use Rattle.formula.specs.declared.token.Token.{Token}
+-- they are named as the types of what they hold
 use Rattle.formula.specs.declared.token.Token.TheVariants as token
 
 -- a token: a sign or a word, or a name by its bytes

@@ -3,7 +3,7 @@
 #![tactic(auto)]
 
 use base::action_set::ActionSet;
-use base::labels::Labels;
+use base::labels::{Labels, MOST_NAMES};
 use base::refusal::Refusal;
 use formula::enter::enter;
 use formula::node::{Node, Part};
@@ -34,6 +34,7 @@ fn decode(heap: Global, line: &str) -> Result<Vec<u8>, AllocError> {
     }
 }
 
+// The label list that the lines are read by.
 fn names() -> Result<Labels, Refusal> {
     let mut labels = Labels::fresh();
     for name in ["a", "b", "c", "abcdefghijklmnop"] {
@@ -49,9 +50,9 @@ struct Actions(ActionSet);
 impl fmt::Display for Actions {
     fn fmt<W: fmt::Write>(&self, f: &mut fmt::Formatter<W>) -> fmt::Result {
         let Actions(set) = *self;
-        let most = set.has(63);
+        let most = set.has(MOST_NAMES - 1);
         write!(f, "{}", if most { "~{" } else { "{" })?;
-        for action in 0..64 {
+        for action in 0..MOST_NAMES {
             if set.has(action) != most {
                 write!(f, " {action}")?;
             }
@@ -99,6 +100,7 @@ impl fmt::Display for Shown {
     }
 }
 
+// Prints what a text makes of a table with no node.
 fn run(rt: &HostRuntime, text: &[u8], labels: &Labels) -> io::Result<()> {
     let mut nodes = Nodes::fresh();
     match enter(&mut nodes, text, labels) {
