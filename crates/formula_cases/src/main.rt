@@ -3,13 +3,16 @@
 #![tactic(auto)]
 
 use base::action_set::ActionSet;
-use base::labels::{Labels, MOST_NAMES};
+use base::labels::Labels;
 use base::refusal::Refusal;
 use formula::enter::enter;
 use formula::node::{Node, Part};
 use formula::nodes::Nodes;
 use std::alloc::{AllocError, Global};
 use std::{fmt, io};
+
+// How many actions there are.
+const ACTIONS: u8 = 64;
 
 // What a digit to the base sixteen counts; any other byte counts nothing.
 fn hex(digit: u8) -> u8 {
@@ -50,9 +53,9 @@ struct Actions(ActionSet);
 impl fmt::Display for Actions {
     fn fmt<W: fmt::Write>(&self, f: &mut fmt::Formatter<W>) -> fmt::Result {
         let Actions(set) = *self;
-        let most = set.has(MOST_NAMES - 1);
+        let most = set.has(ACTIONS - 1);
         write!(f, "{}", if most { "~{" } else { "{" })?;
-        for action in 0..MOST_NAMES {
+        for action in 0..ACTIONS {
             if set.has(action) != most {
                 write!(f, " {action}")?;
             }
