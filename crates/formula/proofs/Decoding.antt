@@ -1,6 +1,7 @@
 -- Nodes laid past others: they fit or they do not, the earlier ones decode as before, and the last decodes to the tree.
 use Rattle.std.proofs.Common.{◌≡◌, ℕ, ◌+◌, ◌-◌, ◌<◌, ◌≤◌, ltb, ◌⊎◌, List, [], ◌∷◌, ◌++◌, length, get_or, Some, None, sym, refl, ap, ◌∙◌, inl, inr, ⊎_elim, arith}
 use Rattle.std.proofs.lemmas.List.{append_assoc, length-append, length_push, get_or_push, get_or_append_left}
+use Rattle.std.proofs.lemmas.List.Sums.{fold-append}
 use Rattle.std.proofs.lemmas.Bool.{cases_lt, cond-true, cond-false, lt-ltb, le-ltb}
 use Rattle.formula.specs.Formulas.{Formula, TRUE, NOT, AND, OR, short, path, by_names, size}
 use Rattle.formula.specs.Choosing.{set_of}
@@ -10,8 +11,7 @@ use Rattle.formula.specs.Trees.{Tree}
 
 -- the formulas of nodes, in two goes
 grow-append : (fs : List Formula) (xs ys : List Shape) → grow fs (xs ++ ys) ≡ grow (grow fs xs) ys
-grow-append fs [] ys = refl
-grow-append fs (x ∷ xs) ys = grow-append (fs ++ build fs x ∷ []) xs ys
+grow-append fs xs ys = fold-append (λ fs x. fs ++ build fs x ∷ []) fs xs ys
 
 length-grow : (fs : List Formula) (xs : List Shape) → length (grow fs xs) ≡ length fs + length xs
 length-grow fs [] = omega arith

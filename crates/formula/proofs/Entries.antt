@@ -4,6 +4,7 @@ use Rattle.std.proofs.lemmas.List.{length-append, length-map, length-take}
 use Rattle.std.proofs.lemmas.Bool.{cond-true, cond-false, lt-ltb, le-ltb, both_ways, eqb-true, false≢true}
 use Rattle.base.specs.declared.refusal.Refusal.{Refusal}
 use Rattle.base.specs.declared.refusal.Refusal.TheVariants.{Grammar, Full}
+use Rattle.std.proofs.lemmas.Option.{same_Some}
 use Rattle.formula.specs.declared.nodes.Entry.{Entry}
 use Rattle.formula.specs.declared.nodes.Nodes.{Nodes}
 use Rattle.formula.specs.Entering.{all_listed, fits, verdict, verdict_on, verdict_at, Whole, Written, Checked, Planned, Refused, Entered}
@@ -17,9 +18,6 @@ use Rattle.formula.specs.Trees.{Tree}
 use Rattle.formula.proofs.Complete.{tree_in}
 use Rattle.formula.proofs.Decoding.{Put, Over, laid, earlier}
 use Rattle.formula.proofs.Sound.{tree_out}
-
-same : {A : Type 0} {x y : A} → ◌≡◌ {A = Option A} (Some x) (Some y) → x ≡ y
-same e = cc
 
 -- the tokens as a whole
 pub tree-none : (ts : List Tok) → Reads formula_rules OrLevel ts None → tree_of ts ≡ None
@@ -58,7 +56,7 @@ module _ (names : List (List ℕ)) (ts : List Tok) (t : Tree) (xs : List Shape) 
       at : Put names t xs ⊎ Over names t xs → (verdict names (length xs) ts t ≡ Ok root) × Written names t xs ys root
       at (inr o) = let z : ◌≡◌ {A = ℕ} 0 1 = (let q = sym o.is ∙ e in cc) in absurd (omega arith)
       at (inl p) =
-          let g : ys ≡ xs ++ p.new = same (sym e ∙ p.is) in
+          let g : ys ≡ xs ++ p.new = same_Some _ _ (sym e ∙ p.is) in
           let n : length ys ≡ length xs + size t = ap length g ∙ length-append xs p.new ∙ ap (λ k. length xs + k) p.long in
           let k : length xs + size t - 1 ≡ root = omega arith in (
             listed ∙ cond-false _ _ _ (le-ltb 48 (length xs + size t) p.room) ∙ ap Ok k,
@@ -126,14 +124,14 @@ module _ (text : List ℕ) (names : List (List ℕ)) (before : Nodes) where
 
     one : (t : Tree) → Says text t → k.checked.tree ≡ t
     one t d =
-        let e : k.tokens ≡ d.tokens = same (sym k.lexed ∙ d.lexed) in
-        same (sym k.checked.is ∙ ap tree_of e ∙ tree_in d.tokens t d.whole)
+        let e : k.tokens ≡ d.tokens = same_Some _ _ (sym k.lexed ∙ d.lexed) in
+        same_Some _ _ (sym k.checked.is ∙ ap tree_of e ∙ tree_in d.tokens t d.whole)
 
     pub accepted : Entered text names before entry.nodes (Ok entry.root)
     accepted = record {
       oversized = λ h. absurd (both_ways (fits text) h k.right_size);
       unformed = λ f. absurd (f k.checked.tree said);
-      formed = λ h t d. sym k.checked.answer ∙ ap (λ ts. verdict names (length xs) ts k.checked.tree) (same (sym k.lexed ∙ d.lexed)) ∙ ap (verdict names (length xs) d.tokens) (one t d);
+      formed = λ h t d. sym k.checked.answer ∙ ap (λ ts. verdict names (length xs) ts k.checked.tree) (same_Some _ _ (sym k.lexed ∙ d.lexed)) ∙ ap (verdict names (length xs) d.tokens) (one t d);
       written = λ root h t d.
           let r : entry.root ≡ root = cc in
           subst (λ u. Written names u xs (shapes entry.nodes) root) (one t d)

@@ -1,6 +1,7 @@
 -- The loop over the tokens of a text: those found so far, and those that the rest of the text has.
 use Rattle.std.proofs.Common.{◌≡◌, ℕ, suc, ◌+◌, ◌-◌, ◌≤◌, List, [], ◌∷◌, ◌++◌, map, length, Some, None, Option, sym, refl, ap, ◌∙◌, subst, arith, length-append}
 use Rattle.std.specs.Option.{option_map}
+use Rattle.std.proofs.lemmas.Iterator.Adapters.{option_map_id}
 use Rattle.std.proofs.lemmas.List.{append_assoc, map_push}
 use Rattle.formula.specs.declared.token.Token.{Token}
 use Rattle.formula.specs.Tokens.{Tok, tok, found, front, onward, tokens_in, tokens_of}
@@ -11,14 +12,10 @@ after xs ts = map tok xs ++ ts
 abbrev pub Lexed : List ℕ → List Token → List ℕ → Type 0
 Lexed text xs rest = tokens_of text ≡ option_map (after xs) (tokens_in (length text + 1 - length xs) rest)
 
-mapped_id : {A : Type 0} (o : Option A) → option_map (λ x. x) o ≡ o
-mapped_id None = refl
-mapped_id (Some x) = refl
-
 begin : (text : List ℕ) → Lexed text [] text
 begin text =
     let e : suc (length text) ≡ length text + 1 - 0 = omega arith in
-    ap (λ n. tokens_in n text) e ∙ sym (mapped_id (tokens_in (length text + 1 - 0) text))
+    ap (λ n. tokens_in n text) e ∙ sym (option_map_id (tokens_in (length text + 1 - 0) text))
 
 pub begins : (text : List ℕ) (xs : List Token) (rest : List ℕ) → xs ≡ [] → rest ≡ text → Lexed text xs rest
 begins text xs rest e f = subst (λ ys. Lexed text ys rest) (sym e) (subst (Lexed text []) (sym f) (begin text))

@@ -6,6 +6,7 @@ mod Entries
 mod Findings
 mod Layings
 mod Lexing
+mod Measures
 mod Readings
 mod Runs
 mod Sound

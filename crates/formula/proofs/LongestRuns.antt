@@ -1,36 +1,34 @@
 -- The lexer's function finds the tokens that a text has by longest runs, and no others.
 use Rattle.std.proofs.Common.{◌≡◌, ℕ, zero, suc, ◌+◌, ◌<◌, ◌≤◌, Bool, true, false, cond, not, ◌&&◌, eqb, leb, ◌⊎◌, List, [], ◌∷◌, ◌++◌, length, drop, Some, None, Option, sym, refl, ap, ◌∙◌, subst, inl, inr, arith, take-append-drop}
-use Rattle.std.specs.List.{prefix_len}
+use Rattle.std.specs.List.{prefix_len, take_while, list_all}
 use Rattle.std.specs.Option.{option_map}
 use Rattle.std.proofs.lemmas.List.{length-append}
 use Rattle.std.proofs.lemmas.List.Sums.{take_while-cons}
-use Rattle.std.proofs.lemmas.Bool.{both_ways, cases_Bool, and_parts, and_from, eqb-true, ne_eqb, leb-true, lt-leb, cond-true, cond-false}
+use Rattle.std.proofs.lemmas.Option.{none-some, same_Some}
+use Rattle.std.proofs.lemmas.Bool.{both_ways, cases_Bool, not-true, and_parts, and_from, eqb-true, ne_eqb, leb-true, lt-leb, cond-true, cond-false}
 use Rattle.base.specs.Names.{letter, name_byte, name_bytes, is_name}
 use Rattle.formula.specs.declared.mark.Mark.{Mark}
 use Rattle.formula.specs.declared.mark.Mark.TheVariants.{Sign as signed}
 use Rattle.formula.specs.declared.mark.Sign.{Sign}
-use Rattle.formula.specs.Tokens.{Tok, mark, name, sign, word, capital, run, past, Front, broken, found, found_mark, word_at, name_at, token_at, front, onward, tokens_in}
-use Rattle.formula.specs.Lexes.{all_pass, stops, Lexes, done, space, a_sign, a_word, a_name, LongestRuns}
+use Rattle.formula.specs.Tokens.{Tok, mark, name, sign, word, capital, past, Front, broken, found, found_mark, word_at, name_at, token_at, front, onward, tokens_in}
+use Rattle.formula.specs.Lexes.{stops, Lexes, done, space, a_sign, a_word, a_name, LongestRuns}
 
 -- a run and what follows it
-split : (p : ℕ → Bool) (bs : List ℕ) → run p bs ++ past p bs ≡ bs
+split : (p : ℕ → Bool) (bs : List ℕ) → take_while p bs ++ past p bs ≡ bs
 split p bs = take-append-drop (prefix_len p bs) bs
-
-run-cons : (p : ℕ → Bool) (b : ℕ) (bs : List ℕ) → run p (b ∷ bs) ≡ cond (p b) (b ∷ run p bs) []
-run-cons p b bs = take_while-cons p b bs
 
 past-cons : (p : ℕ → Bool) (b : ℕ) (bs : List ℕ) → past p (b ∷ bs) ≡ cond (p b) (past p bs) (b ∷ bs)
 past-cons p b bs =
     let n : 1 + prefix_len p bs ≡ suc (prefix_len p bs) = omega arith in
     elim (p b) as (λ x. drop (cond x (1 + prefix_len p bs) 0) (b ∷ bs) ≡ cond x (past p bs) (b ∷ bs)) [ true ↦ ap (λ k. drop k (b ∷ bs)) n | false ↦ refl ]
 
-run_passes : (p : ℕ → Bool) (bs : List ℕ) → all_pass p (run p bs) ≡ true
+run_passes : (p : ℕ → Bool) (bs : List ℕ) → list_all p (take_while p bs) ≡ true
 run_passes p [] = refl
 run_passes p (b ∷ bs) = go (cases_Bool (p b)) (run_passes p bs)
   where
-    go : (p b ≡ true) ⊎ (p b ≡ false) → all_pass p (run p bs) ≡ true → all_pass p (run p (b ∷ bs)) ≡ true
-    go (inl e) h = ap (all_pass p) (run-cons p b bs ∙ cond-true (p b) (b ∷ run p bs) [] e) ∙ and_from (p b) (all_pass p (run p bs)) e h
-    go (inr e) h = ap (all_pass p) (run-cons p b bs ∙ cond-false (p b) (b ∷ run p bs) [] e)
+    go : (p b ≡ true) ⊎ (p b ≡ false) → list_all p (take_while p bs) ≡ true → list_all p (take_while p (b ∷ bs)) ≡ true
+    go (inl e) h = ap (list_all p) (take_while-cons p b bs ∙ cond-true (p b) (b ∷ take_while p bs) [] e) ∙ and_from (p b) (list_all p (take_while p bs)) e h
+    go (inr e) h = ap (list_all p) (take_while-cons p b bs ∙ cond-false (p b) (b ∷ take_while p bs) [] e)
 
 past-stops : (p : ℕ → Bool) (bs : List ℕ) → stops p (past p bs) ≡ true
 past-stops p [] = refl
@@ -40,28 +38,24 @@ past-stops p (b ∷ bs) = go (cases_Bool (p b)) (past-stops p bs)
     go (inl e) h = ap (stops p) (past-cons p b bs ∙ cond-true (p b) (past p bs) (b ∷ bs) e) ∙ h
     go (inr e) h = ap (stops p) (past-cons p b bs ∙ cond-false (p b) (past p bs) (b ∷ bs) e) ∙ ap not e
 
-not_passed : (x : Bool) → not x ≡ true → x ≡ false
-not_passed true e = sym e
-not_passed false e = refl
-
 -- a longest run is found whole
-run_of : (p : ℕ → Bool) (w rest : List ℕ) → all_pass p w ≡ true → stops p rest ≡ true → run p (w ++ rest) ≡ w
+run_of : (p : ℕ → Bool) (w rest : List ℕ) → list_all p w ≡ true → stops p rest ≡ true → take_while p (w ++ rest) ≡ w
 run_of p [] [] h s = refl
-run_of p [] (b ∷ bs) h s = run-cons p b bs ∙ cond-false (p b) (b ∷ run p bs) [] (not_passed (p b) s)
+run_of p [] (b ∷ bs) h s = take_while-cons p b bs ∙ cond-false (p b) (b ∷ take_while p bs) [] (not-true (p b) s)
 run_of p (b ∷ w) rest h s =
-    let k = and_parts (p b) (all_pass p w) h in
-    run-cons p b (w ++ rest) ∙ cond-true (p b) (b ∷ run p (w ++ rest)) [] k.0 ∙ ap (λ (x : List ℕ). b ∷ x) (run_of p w rest k.1 s)
+    let k = and_parts (p b) (list_all p w) h in
+    take_while-cons p b (w ++ rest) ∙ cond-true (p b) (b ∷ take_while p (w ++ rest)) [] k.0 ∙ ap (λ (x : List ℕ). b ∷ x) (run_of p w rest k.1 s)
 
-past_of : (p : ℕ → Bool) (w rest : List ℕ) → all_pass p w ≡ true → stops p rest ≡ true → past p (w ++ rest) ≡ rest
+past_of : (p : ℕ → Bool) (w rest : List ℕ) → list_all p w ≡ true → stops p rest ≡ true → past p (w ++ rest) ≡ rest
 past_of p [] [] h s = refl
-past_of p [] (b ∷ bs) h s = past-cons p b bs ∙ cond-false (p b) (past p bs) (b ∷ bs) (not_passed (p b) s)
+past_of p [] (b ∷ bs) h s = past-cons p b bs ∙ cond-false (p b) (past p bs) (b ∷ bs) (not-true (p b) s)
 past_of p (b ∷ w) rest h s =
-    let k = and_parts (p b) (all_pass p w) h in
+    let k = and_parts (p b) (list_all p w) h in
     past-cons p b (w ++ rest) ∙ cond-true (p b) (past p (w ++ rest)) (b ∷ (w ++ rest)) k.0 ∙ past_of p w rest k.1 s
 
-passes : (w : List ℕ) → name_bytes w ≡ true → all_pass name_byte w ≡ true
+passes : (w : List ℕ) → name_bytes w ≡ true → list_all name_byte w ≡ true
 passes [] h = refl
-passes (b ∷ w) h = let k = and_parts (name_byte b) (name_bytes w) h in and_from (name_byte b) (all_pass name_byte w) k.0 (passes w k.1)
+passes (b ∷ w) h = let k = and_parts (name_byte b) (name_bytes w) h in and_from (name_byte b) (list_all name_byte w) k.0 (passes w k.1)
 
 -- Which bytes begin what.
 module _ (b : ℕ) where
@@ -97,51 +91,37 @@ module _ (b : ℕ) where
       off true = refl
       off false = refl
 
-abbrev is_none : {A : Type 0} → Option A → Bool
-is_none None = true
-is_none (Some y) = false
-
-none_some : {A : Type 0} {B : Type 0} (x : A) → ◌≡◌ {A = Option A} None (Some x) → B
-none_some {A} x e = absurd (both_ways false refl (sym (ap (is_none {A = A}) e)))
-
 -- What the function finds at the front is there.
 mapped_some : {A : Type 0} {B : Type 0} (f : A → B) (o : Option A) (y : B) → option_map f o ≡ Some y → (x : A) × (o ≡ Some x) × (Some (f x) ≡ Some y)
-mapped_some f None y e = none_some y e
+mapped_some f None y e = absurd (none-some y e)
 mapped_some f (Some x) y e = (x, refl, e)
-
-abbrev tail_of : List Tok → List Tok → Option (List Tok) → List Tok
-tail_of us or None = or
-tail_of us or (Some ts) = ts
-
-same_some : (us ts : List Tok) → Some us ≡ Some ts → us ≡ ts
-same_some us ts e = ap (tail_of us us) e
 
 module _ (n : ℕ) (more : (text : List ℕ) (ts : List Tok) → tokens_in n text ≡ Some ts → Lexes text ts) where
   next-found : (t : Tok) (rest text : List ℕ) (ts : List Tok) → ((us : List Tok) → Lexes rest us → Lexes text (t ∷ us))
       → onward (found t rest) (tokens_in n) ≡ Some ts → Lexes text ts
   next-found t rest text ts put e =
       let (us, k, z) = mapped_some (λ (us : List Tok). t ∷ us) (tokens_in n rest) ts e in
-      subst (Lexes text) (same_some (t ∷ us) ts z) (put us (more rest us k))
+      subst (Lexes text) (same_Some (t ∷ us) ts z) (put us (more rest us k))
 
   module _ (bs : List ℕ) (ts : List Tok) where
-    as_word : (o : Option Mark) → word (run capital bs) ≡ o → onward (found_mark o (past capital bs) broken) (tokens_in n) ≡ Some ts → Lexes bs ts
-    as_word None k e = none_some ts e
+    as_word : (o : Option Mark) → word (take_while capital bs) ≡ o → onward (found_mark o (past capital bs) broken) (tokens_in n) ≡ Some ts → Lexes bs ts
+    as_word None k e = absurd (none-some ts e)
     as_word (Some m) k e =
         next-found (mark m) (past capital bs) bs ts
         (λ us d. subst (λ (x : List ℕ). Lexes x (mark m ∷ us)) (split capital bs)
-        (a_word (run capital bs) (past capital bs) (run_passes capital bs) (past-stops capital bs) k d)) e
+        (a_word (take_while capital bs) (past capital bs) (run_passes capital bs) (past-stops capital bs) k d)) e
 
-    as_name : (x : Bool) → is_name (run name_byte bs) ≡ x
-        → onward (cond x (found (name (run name_byte bs)) (past name_byte bs)) broken) (tokens_in n) ≡ Some ts → Lexes bs ts
-    as_name false k e = none_some ts e
+    as_name : (x : Bool) → is_name (take_while name_byte bs) ≡ x
+        → onward (cond x (found (name (take_while name_byte bs)) (past name_byte bs)) broken) (tokens_in n) ≡ Some ts → Lexes bs ts
+    as_name false k e = absurd (none-some ts e)
     as_name true k e =
-        next-found (name (run name_byte bs)) (past name_byte bs) bs ts
-        (λ us d. subst (λ (x : List ℕ). Lexes x (name (run name_byte bs) ∷ us)) (split name_byte bs)
-        (a_name (run name_byte bs) (past name_byte bs) k (past-stops name_byte bs) d)) e
+        next-found (name (take_while name_byte bs)) (past name_byte bs) bs ts
+        (λ us d. subst (λ (x : List ℕ). Lexes x (name (take_while name_byte bs) ∷ us)) (split name_byte bs)
+        (a_name (take_while name_byte bs) (past name_byte bs) k (past-stops name_byte bs) d)) e
 
     by_case : (x : Bool) → onward (cond x (word_at bs) (name_at bs)) (tokens_in n) ≡ Some ts → Lexes bs ts
-    by_case true e = as_word (word (run capital bs)) refl e
-    by_case false e = as_name (is_name (run name_byte bs)) refl e
+    by_case true e = as_word (word (take_while capital bs)) refl e
+    by_case false e = as_name (is_name (take_while name_byte bs)) refl e
 
   as_sign : (b : ℕ) (bs : List ℕ) (ts : List Tok) (o : Option Sign) → sign b ≡ o
       → onward (found_mark (option_map signed o) bs (cond (capital b) (word_at (b ∷ bs)) (name_at (b ∷ bs)))) (tokens_in n) ≡ Some ts → Lexes (b ∷ bs) ts
@@ -149,7 +129,7 @@ module _ (n : ℕ) (more : (text : List ℕ) (ts : List Tok) → tokens_in n tex
   as_sign b bs ts (Some s) k e = next-found (mark (signed s)) bs (b ∷ bs) ts (λ us d. a_sign k d) e
 
   at_front : (text : List ℕ) (ts : List Tok) → onward (front text) (tokens_in n) ≡ Some ts → Lexes text ts
-  at_front [] ts e = subst (Lexes []) (same_some [] ts e) done
+  at_front [] ts e = subst (Lexes []) (same_Some [] ts e) done
   at_front (b ∷ bs) ts e = go (eqb b 32) refl e (at_front bs ts)
     where
       go : (x : Bool) → eqb b 32 ≡ x → onward (cond x (front bs) (token_at (b ∷ bs))) (tokens_in n) ≡ Some ts
@@ -158,7 +138,7 @@ module _ (n : ℕ) (more : (text : List ℕ) (ts : List Tok) → tokens_in n tex
       go false k e rest = as_sign b bs ts (sign b) refl e
 
 sound : (n : ℕ) (text : List ℕ) (ts : List Tok) → tokens_in n text ≡ Some ts → Lexes text ts
-sound zero text ts e = none_some ts e
+sound zero text ts e = absurd (none-some ts e)
 sound (suc n) text ts e = at_front n (sound n) text ts e
 
 -- And what is there it finds.
@@ -167,7 +147,7 @@ not_space c s e = go (cases_Bool (eqb c 32))
   where
     go : (eqb c 32 ≡ true) ⊎ (eqb c 32 ≡ false) → eqb c 32 ≡ false
     go (inr k) = k
-    go (inl k) = none_some s (sym (ap sign (eqb-true c 32 k)) ∙ e)
+    go (inl k) = absurd (none-some s (sym (ap sign (eqb-true c 32 k)) ∙ e))
 
 module _ (n : ℕ) (b : ℕ) (bs rest : List ℕ) (t : Tok) (ts : List Tok) where
   onward-found : front (b ∷ bs) ≡ found t rest → tokens_in n rest ≡ Some ts → tokens_in (suc n) (b ∷ bs) ≡ Some (t ∷ ts)
@@ -187,10 +167,10 @@ complete (a_sign {c = c} {s = s} {rest = rest} {ts = ts} e d) (suc n) l =
     (cond-false (eqb c 32) (front rest) (token_at (c ∷ rest)) (not_space c s e) ∙ ap (found_sign c rest) e)
     (complete d n (omega arith))
 complete (a_word w rest h s k d) zero l = absurd (omega arith)
-complete (a_word [] rest {m = m} h s k d) (suc n) l = none_some m k
+complete (a_word [] rest {m = m} h s k d) (suc n) l = absurd (none-some m k)
 complete (a_word (b ∷ w) rest {m = m} {ts = ts} h s k d) (suc n) l =
-    let c = and_parts (capital b) (all_pass capital w) h in
-    let whole : word (run capital (b ∷ (w ++ rest))) ≡ Some m = ap word (run_of capital (b ∷ w) rest h s) ∙ k in
+    let c = and_parts (capital b) (list_all capital w) h in
+    let whole : word (take_while capital (b ∷ (w ++ rest))) ≡ Some m = ap word (run_of capital (b ∷ w) rest h s) ∙ k in
     onward-found n b (w ++ rest) rest (mark m) ts
     (cond-false (eqb b 32) (front (w ++ rest)) (token_at (b ∷ (w ++ rest))) (capital_no_space b c.0)
     ∙ ap (found_sign b (w ++ rest)) (capital_no_sign b c.0)
@@ -203,14 +183,14 @@ complete (a_name [] rest h s d) (suc n) l = absurd (both_ways _ refl h)
 complete (a_name (b ∷ w) rest {ts = ts} h s d) (suc n) l =
     let k = and_parts (leb (length (b ∷ w)) 16) (letter b && name_bytes (b ∷ w)) h in
     let c = and_parts (letter b) (name_bytes (b ∷ w)) k.1 in
-    let each : all_pass name_byte (b ∷ w) ≡ true = passes (b ∷ w) c.1 in
-    let is : run name_byte (b ∷ (w ++ rest)) ≡ b ∷ w = run_of name_byte (b ∷ w) rest each s in
-    let whole : is_name (run name_byte (b ∷ (w ++ rest))) ≡ true = ap is_name is ∙ h in
+    let each : list_all name_byte (b ∷ w) ≡ true = passes (b ∷ w) c.1 in
+    let is : take_while name_byte (b ∷ (w ++ rest)) ≡ b ∷ w = run_of name_byte (b ∷ w) rest each s in
+    let whole : is_name (take_while name_byte (b ∷ (w ++ rest))) ≡ true = ap is_name is ∙ h in
     onward-found n b (w ++ rest) rest (name (b ∷ w)) ts
     (cond-false (eqb b 32) (front (w ++ rest)) (token_at (b ∷ (w ++ rest))) (letter_no_space b c.0)
     ∙ ap (found_sign b (w ++ rest)) (letter_no_sign b c.0)
     ∙ cond-false (capital b) (word_at (b ∷ (w ++ rest))) (name_at (b ∷ (w ++ rest))) (letter_no_capital b c.0)
-    ∙ cond-true (is_name (run name_byte (b ∷ (w ++ rest)))) (found (name (run name_byte (b ∷ (w ++ rest)))) (past name_byte (b ∷ (w ++ rest)))) broken whole
+    ∙ cond-true (is_name (take_while name_byte (b ∷ (w ++ rest)))) (found (name (take_while name_byte (b ∷ (w ++ rest)))) (past name_byte (b ∷ (w ++ rest)))) broken whole
     ∙ ap (λ (x : List ℕ). found (name x) (past name_byte (b ∷ (w ++ rest)))) is
     ∙ ap (λ (x : List ℕ). found (name (b ∷ w)) x) (past_of name_byte (b ∷ w) rest each s))
     (complete d n (omega (arith, length-append w rest)))

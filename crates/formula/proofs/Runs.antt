@@ -1,43 +1,27 @@
 -- What is cut from the front of a text.
-use Rattle.std.proofs.Common.{◌≡◌, ℕ, suc, ◌+◌, ◌<◌, ◌≤◌, Bool, true, false, cond, not, ◌&&◌, eqb, leb, ltb, List, [], ◌∷◌, length, take, drop, Some, None, Option, refl, ap, ◌∙◌, arith, length-drop}
-use Rattle.std.specs.List.{prefix_len, position_or_len, position}
+use Rattle.std.proofs.Common.{◌≡◌, ℕ, suc, ◌+◌, ◌<◌, Bool, true, false, cond, ◌&&◌, eqb, leb, List, [], ◌∷◌, length, take, drop, Some, None, Option, refl, ap, ◌∙◌, arith, length-drop}
+use Rattle.std.specs.List.{prefix_len}
 use Rattle.std.specs.Option.{option_map}
-use Rattle.std.proofs.lemmas.List.{take_all, drop_all}
-use Rattle.std.proofs.lemmas.Bool.{leb-true, ltb-false, and_parts}
+use Rattle.std.proofs.lemmas.List.{take_all}
+use Rattle.std.proofs.lemmas.Bool.{leb-true, and_parts}
 use Rattle.base.specs.Names.{name_byte, begins_name, name_bytes, is_name}
 use Rattle.formula.specs.declared.mark.Mark.{Mark}
 use Rattle.formula.specs.declared.mark.Mark.TheVariants.{Sign as signed}
-use Rattle.formula.specs.Tokens.{capital, sign, word, Front, ended, broken, found, name, found_mark, word_at, name_at, token_at, front}
+use Rattle.formula.specs.Tokens.{capital, past, sign, word, Front, ended, broken, found, name, found_mark, word_at, name_at, token_at, front}
 
 -- a name is at most 16 bytes long
 pub name-fits : (y : List ℕ) → is_name y ≡ true → take 16 y ≡ y
 name-fits y h = take_all 16 y (leb-true _ _ (and_parts (leb (length y) 16) (begins_name y && name_bytes y) h).0)
 
--- where the first byte stands that is no space
-abbrev pub start : List ℕ → ℕ
-start bs = position_or_len (λ b. not (eqb b 32)) bs
-
-at_start : (bs : List ℕ) → front bs ≡ token_at (drop (start bs) bs)
-at_start [] = refl
-at_start (b ∷ bs) = go (eqb b 32) (at_start bs)
+-- what follows spaces
+pub past_spaces : (bs : List ℕ) → front bs ≡ token_at (past (λ b. eqb b 32) bs)
+past_spaces [] = refl
+past_spaces (b ∷ bs) = go (eqb b 32) (past_spaces bs)
   where
-    go : (x : Bool) → front bs ≡ token_at (drop (start bs) bs) → cond x (front bs) (token_at (b ∷ bs)) ≡ token_at (drop (cond (not (not x)) (1 + start bs) 0) (b ∷ bs))
-    go true e = let n : suc (start bs) ≡ 1 + start bs = omega arith in e ∙ ap (λ k. token_at (drop k (b ∷ bs))) n
+    go : (x : Bool) → front bs ≡ token_at (past (λ b. eqb b 32) bs) →
+        cond x (front bs) (token_at (b ∷ bs)) ≡ token_at (drop (cond x (1 + prefix_len (λ b. eqb b 32) bs) 0) (b ∷ bs))
+    go true e = let n : suc (prefix_len (λ b. eqb b 32) bs) ≡ 1 + prefix_len (λ b. eqb b 32) bs = omega arith in e ∙ ap (λ k. token_at (drop k (b ∷ bs))) n
     go false e = refl
-
-pub no_start : (bs : List ℕ) → position (λ b. not (eqb b 32)) bs ≡ None → front bs ≡ ended
-no_start bs e = at_start bs ∙ ap token_at (drop_all (start bs) bs (go (ltb (start bs) (length bs)) refl e))
-  where
-    go : (x : Bool) → ltb (start bs) (length bs) ≡ x → cond x (Some (start bs)) None ≡ None → length bs ≤ start bs
-    go true h e = cc
-    go false h e = ltb-false (start bs) (length bs) h
-
-pub some_start : (bs : List ℕ) (i : ℕ) → position (λ b. not (eqb b 32)) bs ≡ Some i → front bs ≡ token_at (drop i bs)
-some_start bs i e = at_start bs ∙ ap (λ k. token_at (drop k bs)) (go (ltb (start bs) (length bs)) e)
-  where
-    go : (x : Bool) → cond x (Some (start bs)) None ≡ Some i → start bs ≡ i
-    go true e = cc
-    go false e = cc
 
 -- what is found is followed by less than the whole
 abbrev pub Within : ℕ → Front → Type 0

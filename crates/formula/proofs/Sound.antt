@@ -1,5 +1,6 @@
 -- What the reader reads is of the grammar.
 use Rattle.std.proofs.Common.{◌≡◌, ℕ, zero, suc, ◌+◌, ◌*◌, Bool, true, false, cond, List, [], ◌∷◌, length, Some, None, Option, sym, refl, ap, ◌∙◌, subst}
+use Rattle.std.proofs.lemmas.Option.{same_Some}
 use Rattle.formula.specs.declared.mark.Quantifier.{Quantifier}
 use Rattle.formula.specs.declared.mark.Link.{Link}
 use Rattle.formula.specs.declared.mark.Mark.{Mark}
@@ -24,9 +25,6 @@ Out D Tight ts x rest = D tight ts x rest
 abbrev Gives : {X : Type 0} → (Level → List Tok → X → List Tok → Type 0) → (Stage X → List Tok → Got X) → Type 0
 Gives {X} D r = (l : Stage X) (ts : List Tok) (x : X) (rest : List Tok) → r l ts ≡ Some (x, rest) → Out D l ts x rest
 
-same : {A : Type 0} {x y : A} → ◌≡◌ {A = Option A} (Some x) (Some y) → x ≡ y
-same e = cc
-
 -- chains, for a relation that has the rules of chains
 module _ {X : Type 0} (R : Rules X) (D : Level → List Tok → X → List Tok → Type 0)
     (no_or : (ts rest : List Tok) (x : X) → D and_level ts x rest → D or_level ts x rest)
@@ -36,7 +34,7 @@ module _ {X : Type 0} (R : Rules X) (D : Level → List Tok → X → List Tok �
     (by-rule : (r : Stage X → List Tok → Got X) → Gives D r → (ts : List Tok) (x : X) (rest : List Tok) → R.tightly r ts ≡ Some (x, rest) → D tight ts x rest) where
   or_out : (r : Stage X → List Tok → Got X) → Gives D r → (y : X) (ts : List Tok) (x : X) (rest : List Tok) (o : Option (List Tok)) → past_sign Or ts ≡ o →
       if_there {X = Got X} o (λ us. then (r AndLevel us) (λ z vs. r (OrMore (R.either y z)) vs)) (Some (y, ts)) ≡ Some (x, rest) → Out D (OrMore y) ts x rest
-  or_out r g y ts x rest None h e = λ us d. subst (λ p. D or_level us p.0 p.1) (same e) d
+  or_out r g y ts x rest None h e = λ us d. subst (λ p. D or_level us p.0 p.1) (same_Some _ _ e) d
   or_out r g y ts x rest (Some vs) h e = λ us d.
       let k = then_out (r AndLevel vs) (λ z ws. r (OrMore (R.either y z)) ws) e in
       g (OrMore (R.either y k.0)) k.1 x rest k.3 us
@@ -44,7 +42,7 @@ module _ {X : Type 0} (R : Rules X) (D : Level → List Tok → X → List Tok �
 
   and_out : (r : Stage X → List Tok → Got X) → Gives D r → (y : X) (ts : List Tok) (x : X) (rest : List Tok) (o : Option (List Tok)) → past_sign And ts ≡ o →
       if_there {X = Got X} o (λ us. then (r Tight us) (λ z vs. r (AndMore (R.both y z)) vs)) (Some (y, ts)) ≡ Some (x, rest) → Out D (AndMore y) ts x rest
-  and_out r g y ts x rest None h e = λ us d. subst (λ p. D and_level us p.0 p.1) (same e) d
+  and_out r g y ts x rest None h e = λ us d. subst (λ p. D and_level us p.0 p.1) (same_Some _ _ e) d
   and_out r g y ts x rest (Some vs) h e = λ us d.
       let k = then_out (r Tight vs) (λ z ws. r (AndMore (R.both y z)) ws) e in
       g (AndMore (R.both y k.0)) k.1 x rest k.3 us
@@ -69,7 +67,7 @@ ended_out {X} s x y ts rest e = at (past_sign s ts) refl e
   where
     at : (o : Option (List Tok)) → past_sign s ts ≡ o → if_there {X = Got X} o (λ us. Some (x, us)) None ≡ Some (y, rest) → (x ≡ y) × (ts ≡ mark (signed s) ∷ rest)
     at None h e = no_way _ e
-    at (Some us) h e = let p = same e in (ap (λ q. q.0) p, past_sign_out s ts us h ∙ ap (λ q. mark (signed s) ∷ q.1) p)
+    at (Some us) h e = let p = same_Some _ _ e in (ap (λ q. q.0) p, past_sign_out s ts us h ∙ ap (λ q. mark (signed s) ∷ q.1) p)
 
 -- parentheses
 group_out : {X : Type 0} (D : List Tok → X → List Tok → Type 0) (E : List Tok → X → List Tok → Type 0)
@@ -89,7 +87,7 @@ group_out D E close And ts g inside x rest e = no_way _ e
 group_out D E close Or ts g inside x rest e = no_way _ e
 
 at_pair : {X : Type 0} (D : X → List Tok → Type 0) {x y : X} {ts us : List Tok} → ◌≡◌ {A = Got X} (Some (x, ts)) (Some (y, us)) → D x ts → D y us
-at_pair D e d = subst (λ p. D p.0 p.1) (same e) d
+at_pair D e d = subst (λ p. D p.0 p.1) (same_Some _ _ e) d
 
 -- action formulas
 action_at_out : (r : Stage Acts → List Tok → Got Acts) → Gives ActionFormula r → (m : Mark) (ts : List Tok) (c : Acts) (rest : List Tok) →
@@ -159,7 +157,7 @@ link-at_out Tau ts l rest e = no_way _ e
 link-at_out Not ts l rest e = no_way _ e
 link-at_out (Short o) ts l rest e = no_way _ e
 link-at_out (Path q) ts l rest e = no_way _ e
-link-at_out (Between k) ts l rest e = let p = same e in ap (λ q. mark (Between q.0) ∷ q.1) p
+link-at_out (Between k) ts l rest e = let p = same_Some _ _ e in ap (λ q. mark (Between q.0) ∷ q.1) p
 
 link_out : (ts : List Tok) (l : Link) (rest : List Tok) → link ts ≡ Some (l, rest) → ts ≡ mark (Between l) ∷ rest
 link_out [] l rest e = no_way _ e
@@ -216,7 +214,7 @@ whole_out None t e = no_way _ e
 whole_out (Some p) t e = at p.0 p.1 e
   where
     at : (u : Tree) (rest : List Tok) → nothing_after u rest ≡ Some t → ◌≡◌ {A = Got Tree} (Some (u, rest)) (Some (t, []))
-    at u [] e = ap (λ x. Some (x, [])) (same e)
+    at u [] e = ap (λ x. Some (x, [])) (same_Some _ _ e)
     at u (x ∷ ts) e = no_way _ e
 
 pub tree_out : (ts : List Tok) (t : Tree) → tree_of ts ≡ Some t → Derives or_level ts t []

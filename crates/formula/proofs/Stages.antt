@@ -1,5 +1,6 @@
 -- How each stage reads, from how its parts read.
-use Rattle.std.proofs.Common.{◌≡◌, ℕ, zero, suc, ◌*◌, ◌<◌, ◌≤◌, Bool, true, false, cond, eqb, List, [], ◌∷◌, length, Some, None, Option, sym, refl, ap, ◌∙◌, arith}
+use Rattle.std.proofs.Common.{◌≡◌, ℕ, zero, suc, ◌*◌, ◌<◌, ◌≤◌, true, cond, eqb, List, [], ◌∷◌, length, Some, None, Option, sym, refl, ap, ◌∙◌, arith}
+use Rattle.std.proofs.lemmas.Option.{cond_some, none-some}
 use Rattle.std.proofs.lemmas.Bool.{eqb-true, false≢true}
 use Rattle.formula.specs.declared.mark.Mark.{Mark}
 use Rattle.formula.specs.declared.mark.Mark.TheVariants.{True, False, Tau, Not, Short, Path, Between, Sign as signed}
@@ -9,7 +10,7 @@ use Rattle.formula.specs.Tokens.{Tok, mark, name}
 use Rattle.formula.specs.Reading.{code, is, past_sign, if_there, Got, then, OrLevel, OrMore, AndLevel, AndMore, Tight, Rules, read, Reads}
 
 pub no_way : {A : Type 0} (B : Type 0) {x : A} → ◌≡◌ {A = Option A} None (Some x) → B
-no_way B e = let z : ◌≡◌ {A = ℕ} 0 1 = cc in absurd (omega arith)
+no_way B e = absurd (none-some _ e)
 
 -- a sign is told by its number
 abbrev decode : ℕ → Sign
@@ -32,10 +33,6 @@ decoded BraceClose = refl
 decoded And = refl
 decoded Or = refl
 
-cond_out : {A : Type 0} (b : Bool) {x y : A} → cond b (Some x) None ≡ Some y → (b ≡ true) × (x ≡ y)
-cond_out true e = (refl, cc)
-cond_out false e = no_way _ e
-
 is_out : (s : Sign) (m : Mark) → is s m ≡ true → m ≡ signed s
 is_out s (signed t) e = ap signed (sym (decoded t) ∙ ap decode (eqb-true (code t) (code s) e) ∙ decoded s)
 is_out s True e = absurd (false≢true e)
@@ -49,7 +46,7 @@ is_out s (Between l) e = absurd (false≢true e)
 pub past_sign_out : (s : Sign) (ts rest : List Tok) → past_sign s ts ≡ Some rest → ts ≡ mark (signed s) ∷ rest
 past_sign_out s [] rest e = no_way _ e
 past_sign_out s (name w ∷ ts) rest e = no_way _ e
-past_sign_out s (mark m ∷ ts) rest e = let h = cond_out (is s m) e in ap (λ x. mark x ∷ ts) (is_out s m h.0) ∙ ap (λ x. mark (signed s) ∷ x) h.1
+past_sign_out s (mark m ∷ ts) rest e = let h = cond_some (is s m) ts rest e in ap (λ x. mark x ∷ ts) (is_out s m h.0) ∙ ap (λ x. mark (signed s) ∷ x) h.1
 
 pub past_shorter : (s : Sign) (ts rest : List Tok) → past_sign s ts ≡ Some rest → length ts ≡ suc (length rest)
 past_shorter s ts rest e = ap length (past_sign_out s ts rest e)

@@ -1,4 +1,5 @@
 -- Formulas with sets of actions in place of action formulas.
+-- Trees have like names, so theirs stand after `tree`.
 use Rattle.std.specs.Prelude.{ℕ, ◌+◌, Bool, List}
 use Rattle.formula.specs.declared.mark.Operator.{Operator}
 use Rattle.formula.specs.declared.mark.Quantifier.{Quantifier}

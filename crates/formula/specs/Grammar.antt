@@ -1,4 +1,5 @@
 -- The grammar: which tokens are a formula, and which. `rest` is what follows.
+-- The mark that a sign is stands as `signed`, since `Sign` is the type of signs.
 use Rattle.std.specs.Prelude.{◌≡◌, ℕ, Bool, true, false, List, [], ◌∷◌, Some}
 use Rattle.formula.specs.declared.mark.Operator.{Operator}
 use Rattle.formula.specs.declared.mark.Quantifier.{Quantifier}

@@ -1,5 +1,7 @@
 -- Formulas in a table of nodes, children first.
+-- Nodes and trees have like names, so theirs stand after `node` and `tree`.
 use Rattle.std.specs.Prelude.{ℕ, ◌-◌, cond, List, [], ◌∷◌, ◌++◌, map, length, take, Some, None, Option, nat_lt, slice_index_or}
+use Rattle.std.specs.List.{fold}
 use Rattle.std.specs.Option.{option_map}
 use Rattle.formula.specs.declared.mark.Operator.{Operator}
 use Rattle.formula.specs.declared.mark.Quantifier.{Quantifier}
@@ -49,8 +51,7 @@ build fs (path_node q l c k d m) = path q l c (slice_index_or fs k TRUE) d (slic
 
 -- the formulas of the nodes, after those of the nodes before them
 abbrev pub grow : List Formula → List Shape → List Formula
-grow fs [] = fs
-grow fs (x ∷ xs) = grow (fs ++ build fs x ∷ []) xs
+grow fs xs = fold (λ fs x. fs ++ build fs x ∷ []) fs xs
 
 -- the formula that a node number stands for
 abbrev pub formula_at : List Shape → ℕ → Formula

@@ -1,4 +1,5 @@
 -- How much is read at once, and what the words of chains make.
+-- The words of chains, levels and signs have like names, so each stands after the name of its type.
 use Rattle.std.specs.Prelude.{ℕ, Bool, ◌&&◌, ◌||◌}
 use Rattle.formula.specs.declared.built.Joint.{Joint}
 use Rattle.formula.specs.declared.built.Joint.TheVariants as joint

@@ -1,15 +1,12 @@
 -- The tokens of a text as a relation: spaces may stand anywhere between them, a sign is one character, and a word or a name is a longest run.
-use Rattle.std.specs.Prelude.{◌≡◌, ℕ, Bool, true, not, ◌&&◌, List, [], ◌∷◌, ◌++◌, Some}
+-- The mark that a sign is stands as `signed`, since `Sign` is the type of signs.
+use Rattle.std.specs.Prelude.{◌≡◌, ℕ, Bool, true, not, List, [], ◌∷◌, ◌++◌, Some}
+use Rattle.std.specs.List.{list_all}
 use Rattle.base.specs.Names.{name_byte, is_name}
 use Rattle.formula.specs.declared.mark.Mark.{Mark}
 use Rattle.formula.specs.declared.mark.Mark.TheVariants.{Sign as signed}
 use Rattle.formula.specs.declared.mark.Sign.{Sign}
 use Rattle.formula.specs.Tokens.{Tok, mark, name, tokens_of, sign, word, capital}
-
--- whether all bytes pass a test
-abbrev pub all_pass : (ℕ → Bool) → List ℕ → Bool
-all_pass p [] = true
-all_pass p (b ∷ bs) = p b && all_pass p bs
 
 -- whether a text ends, or goes on with a byte that does not pass: a run before it is a longest one
 abbrev pub stops : (ℕ → Bool) → List ℕ → Bool
@@ -20,7 +17,7 @@ pub data Lexes : List ℕ → List Tok → Type 0 where
   done : Lexes [] []
   space : {rest : List ℕ} {ts : List Tok} → Lexes rest ts → Lexes (32 ∷ rest) ts
   a_sign : {c : ℕ} {s : Sign} {rest : List ℕ} {ts : List Tok} → sign c ≡ Some s → Lexes rest ts → Lexes (c ∷ rest) (mark (signed s) ∷ ts)
-  a_word : (w rest : List ℕ) {m : Mark} {ts : List Tok} → all_pass capital w ≡ true → stops capital rest ≡ true → word w ≡ Some m
+  a_word : (w rest : List ℕ) {m : Mark} {ts : List Tok} → list_all capital w ≡ true → stops capital rest ≡ true → word w ≡ Some m
       → Lexes rest ts → Lexes (w ++ rest) (mark m ∷ ts)
   a_name : (w rest : List ℕ) {ts : List Tok} → is_name w ≡ true → stops name_byte rest ≡ true → Lexes rest ts → Lexes (w ++ rest) (name w ∷ ts)
 

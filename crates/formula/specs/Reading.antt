@@ -1,4 +1,5 @@
 -- How the reader goes through the tokens. Grammar.antt says what a formula is; that the two agree is proved.
+-- The mark that a sign is stands as `signed`, since `Sign` is the type of signs.
 use Rattle.std.specs.Prelude.{◌≡◌, ℕ, zero, suc, ◌+◌, ◌*◌, ◌<◌, Bool, false, cond, List, [], ◌∷◌, length, Some, None, Option, ◌==◌}
 use Rattle.formula.specs.declared.mark.Quantifier.{Quantifier}
 use Rattle.formula.specs.declared.mark.Link.{Link}

@@ -3,6 +3,7 @@ use Rattle.std.specs.Prelude.{ℕ, List, codes}
 use Rattle.formula.specs.declared.mark.Operator.{Operator}
 use Rattle.formula.specs.declared.mark.Operator.TheVariants.{Ex, Ef, Eg, Ax, Af, Ag}
 use Rattle.formula.specs.declared.mark.Quantifier.{Quantifier}
+-- one of them is named as what an option holds
 use Rattle.formula.specs.declared.mark.Quantifier.TheVariants as quantifier
 use Rattle.formula.specs.declared.mark.Link.{Link}
 use Rattle.formula.specs.declared.mark.Link.TheVariants.{Until, Unless}

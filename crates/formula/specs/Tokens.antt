@@ -1,6 +1,7 @@
 -- The tokens of a text, by longest runs.
-use Rattle.std.specs.Prelude.{◌≡◌, ℕ, zero, suc, Bool, cond, ◌&&◌, List, [], ◌∷◌, length, take, drop, Some, None, Ok, Err, codes, Option, Result, ◌==◌, nat_le}
-use Rattle.std.specs.List.{prefix_len}
+-- The mark that a sign is stands as `signed`, since `Sign` is the type of signs.
+use Rattle.std.specs.Prelude.{◌≡◌, ℕ, zero, suc, Bool, cond, ◌&&◌, List, [], ◌∷◌, length, drop, Some, None, Ok, Err, codes, Option, Result, ◌==◌, nat_le}
+use Rattle.std.specs.List.{prefix_len, take_while}
 use Rattle.std.specs.Option.{option_map}
 use Rattle.std.specs.Borrow.{Bor}
 use Rattle.std.specs.Str.{bytes_eq}
@@ -9,6 +10,7 @@ use Rattle.base.specs.Listing.{spelled}
 use Rattle.base.specs.declared.refusal.Refusal.{Refusal}
 use Rattle.base.specs.declared.refusal.Refusal.TheVariants.{Grammar}
 use Rattle.formula.specs.declared.mark.Operator.TheVariants.{Ex, Ef, Eg, Ax, Af, Ag}
+-- one of them is named as what an option holds
 use Rattle.formula.specs.declared.mark.Quantifier.TheVariants as quantifier
 use Rattle.formula.specs.declared.mark.Link.TheVariants.{Until, Unless}
 use Rattle.formula.specs.declared.mark.Mark.{Mark}
@@ -16,6 +18,7 @@ use Rattle.formula.specs.declared.mark.Mark.TheVariants.{True, False, Tau, Not, 
 use Rattle.formula.specs.declared.mark.Sign.{Sign}
 use Rattle.formula.specs.declared.mark.Sign.TheVariants.{Open, Close, BracketOpen, BracketClose, BraceOpen, BraceClose, And, Or}
 use Rattle.formula.specs.declared.token.Token.{Token}
+-- they are named as the types of what they hold
 use Rattle.formula.specs.declared.token.Token.TheVariants as token
 
 -- a token: a sign or a word, or a name by its bytes
@@ -60,10 +63,7 @@ word w =
 abbrev pub capital : ℕ → Bool
 capital b = nat_le 65 b && nat_le b 90
 
--- the longest run at the front of bytes that pass a test, and what follows it
-abbrev pub run : (ℕ → Bool) → List ℕ → List ℕ
-run p bs = take (prefix_len p bs) bs
-
+-- what follows the longest run at the front of bytes that pass a test
 abbrev pub past : (ℕ → Bool) → List ℕ → List ℕ
 past p bs = drop (prefix_len p bs) bs
 
@@ -79,10 +79,10 @@ found_mark None rest other = other
 
 -- the word, or the name, that a text begins with
 abbrev pub word_at : List ℕ → Front
-word_at bs = found_mark (word (run capital bs)) (past capital bs) broken
+word_at bs = found_mark (word (take_while capital bs)) (past capital bs) broken
 
 abbrev pub name_at : List ℕ → Front
-name_at bs = cond (is_name (run name_byte bs)) (found (name (run name_byte bs)) (past name_byte bs)) broken
+name_at bs = cond (is_name (take_while name_byte bs)) (found (name (take_while name_byte bs)) (past name_byte bs)) broken
 
 -- the token that a text begins with
 abbrev pub token_at : List ℕ → Front

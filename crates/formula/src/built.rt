@@ -5,21 +5,21 @@ use crate::token::Token;
 
 // What was read, and the tokens after it.
 #[derive(Clone, Copy)]
-pub struct Found<'a, T> {
+pub(crate) struct Found<'a, T> {
     pub(crate) value: T,
     pub(crate) rest: &'a [Token],
 }
 
 // A word that joins what stands on both sides of it; AND binds closer than OR.
 #[derive(Clone, Copy)]
-pub enum Joint {
+pub(crate) enum Joint {
     Or,
     And,
 }
 
 // How much is read: a chain of what a word joins, or what binds closer than AND.
 #[derive(Clone, Copy)]
-pub enum Level {
+pub(crate) enum Level {
     Chain(Joint),
     Tight,
 }

@@ -14,7 +14,7 @@ use base::labels::Labels;
 
 // The tokens of a text that are left to read, and the labels by which its names are actions.
 #[derive(Clone, Copy)]
-pub struct Cursor<'a> {
+pub(crate) struct Cursor<'a> {
     pub(crate) tokens: &'a [Token],
     pub(crate) labels: &'a Labels,
 }

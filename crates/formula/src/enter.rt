@@ -13,8 +13,9 @@ use base::labels::Labels;
 use base::refusal::Refusal;
 
 // The most bytes that a text may have.
-pub const MOST_BYTES: usize = 1024;
+pub(crate) const MOST_BYTES: usize = 1024;
 
+// Whether a token is no name that the list lacks.
 fn is_listed(token: Token, labels: &Labels) -> bool
     ensures { result ≡ is_listed (listed labels.now) (tok token) }
 {

@@ -1,7 +1,8 @@
 ghost use Rattle.std.specs.Prelude.{◌≡◌, ℕ, Bool, ◌<◌, ◌≤◌, map, length, IfNone, IfSome, IfOk, IfErr, OnErr};
 ghost use Rattle.std.specs.Iterator.{at_most};
+ghost use Rattle.std.specs.List.{take_while};
 ghost use Rattle.base.specs.declared.refusal.Refusal.TheVariants.{Grammar};
-ghost use Rattle.formula.specs.Tokens.{run, past, sign, word, word_at, name_at, token_at, ended, front, Cuts, Steps, tok, tokens_of};
+ghost use Rattle.formula.specs.Tokens.{past, sign, word, word_at, name_at, token_at, ended, front, Cuts, Steps, tok, tokens_of};
 
 use crate::enter::MOST_BYTES;
 use crate::mark::{Link, Mark, Operator, Quantifier, Sign};
@@ -54,7 +55,8 @@ fn word_of(letters: &[u8]) -> Option<Mark>
 // The longest run of bytes that belong, at the front of a text, and the text after it.
 fn run<F: Fn(u8) -> bool>(text: &[u8], belongs: F) -> (&[u8], &[u8])
     requires { F.IsAlwaysCallable belongs }
-    ensures { (p : ℕ → Bool) → ((b : ℕ) (r : Bool) → F.post belongs b r → r ≡ p b) → (result.0.now ≡ run p text.now) × (result.1.now ≡ past p text.now) }
+    ensures within { length result.1.now ≤ length text.now }
+    ensures cut { (p : ℕ → Bool) → ((b : ℕ) (r : Bool) → F.post belongs b r → r ≡ p b) → (result.0.now ≡ take_while p text.now) × (result.1.now ≡ past p text.now) }
 {
     text.split_at(text.iter().take_while(|byte| belongs(**byte)).count())
 }
@@ -91,26 +93,23 @@ fn token_at(text: &[u8]) -> Result<(Token, &[u8]), Refusal>
     }
 }
 
-// A text from its first byte on that is no space, if there is one.
-fn past_spaces(text: &[u8]) -> Option<&[u8]>
-    ensures none { IfNone result (front text.now ≡ ended) }
-    ensures some { IfSome result (λ rest. front text.now ≡ token_at rest.now) }
-    ensures begins { IfSome result (λ rest. 0 < length rest.now) }
-    ensures within { IfSome result (λ rest. length rest.now ≤ length text.now) }
+// A text from its first byte on that is no space; nothing, if there is none.
+fn past_spaces(text: &[u8]) -> &[u8]
+    ensures token { front text.now ≡ token_at result.now }
+    ensures within { length result.now ≤ length text.now }
 {
-    let start = text.iter().position(|byte| *byte != b' ')?;
-    Some(&text[start..])
+    run(text, |byte| byte == b' ').1
 }
 
 // The tokens of a text, one after another. Bytes that are no token are refused, and nothing comes after them.
 #[derive(Clone, Copy)]
-pub struct Lexer<'a> {
+pub(crate) struct Lexer<'a> {
     rest: &'a [u8],
 }
 
 impl<'a> Lexer<'a> {
     // Over the whole of a text.
-    pub fn over(text: &'a [u8]) -> Lexer<'a>
+    pub(crate) fn over(text: &'a [u8]) -> Lexer<'a>
         ensures { result.rest.now ≡ text.now }
     {
         Lexer { rest: text }
@@ -125,7 +124,11 @@ impl<'a> Iterator for Lexer<'a> {
     ghost remaining = { λ s. at_most (length s.rest.now) };
 
     fn next(&mut self) -> Option<Result<Token, Refusal>> {
-        match token_at(past_spaces(self.rest)?) {
+        let text = past_spaces(self.rest);
+        if text.is_empty() {
+            return None;
+        }
+        match token_at(text) {
             Ok((token, rest)) => {
                 self.rest = rest;
                 Some(Ok(token))

@@ -1,15 +1,15 @@
 // Formulas: from the text to a table of nodes.
 #![tactic(auto)]
 
-pub mod actions;
+mod actions;
 pub mod agree;
-pub mod built;
-pub mod cursor;
+mod built;
+mod cursor;
 pub mod enter;
-pub mod lexer;
+mod lexer;
 pub mod mark;
 pub mod node;
 pub mod nodes;
-pub mod reader;
-pub mod table;
-pub mod token;
+mod reader;
+mod table;
+mod token;

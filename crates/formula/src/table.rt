@@ -4,7 +4,7 @@ ghost use Rattle.std.specs.List.{slice_get};
 ghost use Rattle.formula.specs.Laying.{shape, shapes, drafted, push, top};
 
 use crate::node::Node;
-use crate::nodes::{Draft, Nodes};
+use crate::nodes::{Draft, MOST_NODES, Nodes};
 
 impl Nodes {
     // No node yet.
@@ -12,7 +12,7 @@ impl Nodes {
         ensures { shapes result ≡ [] }
     {
         Nodes {
-            table: [Node::True; 48],
+            table: [Node::True; MOST_NODES],
             count: 0,
         }
     }
@@ -40,11 +40,11 @@ impl Nodes {
 
     // Writes a node past the others and says its number, if there is room.
     fn add(&mut self, node: Node) -> Option<usize>
-        ensures variant { IsSome result ↔ (length (shapes self.old) < 48) }
+        ensures variant { IsSome result ↔ (length (shapes self.old) < MOST_NODES) }
         ensures after { OnSome result (shapes self.new ≡ shapes self.old ++ shape node ∷ []) }
         ensures number { IfSome result (λ number. number ≡ length (shapes self.old)) }
     {
-        if self.count >= 48 {
+        if self.count >= MOST_NODES {
             return None;
         }
         let number = self.count;

@@ -7,7 +7,7 @@ use base::name::Name;
 
 // What a text is made of, spaces apart.
 #[derive(Clone, Copy)]
-pub enum Token {
+pub(crate) enum Token {
     Mark(Mark),
     Name(Name),
 }

@@ -10,6 +10,9 @@ use formula::nodes::Nodes;
 use std::alloc::{AllocError, Global};
 use std::{fmt, io};
 
+// How many actions there are.
+const ACTIONS: u8 = 64;
+
 // What a digit to the base sixteen counts; any other byte counts nothing.
 fn hex(digit: u8) -> u8 {
     char::from(digit).to_digit(16).unwrap_or(0) as u8
@@ -40,9 +43,9 @@ struct Actions(ActionSet);
 impl fmt::Display for Actions {
     fn fmt<W: fmt::Write>(&self, f: &mut fmt::Formatter<W>) -> fmt::Result {
         let Actions(set) = *self;
-        let most = set.has(63);
+        let most = set.has(ACTIONS - 1);
         write!(f, "{}", if most { "~{" } else { "{" })?;
-        for action in 0..64 {
+        for action in 0..ACTIONS {
             if set.has(action) != most {
                 write!(f, " {action}")?;
             }
@@ -90,6 +93,7 @@ impl fmt::Display for Shown {
     }
 }
 
+// Prints what a text makes of a table with no node.
 fn run(rt: &HostRuntime, text: &[u8], labels: &Labels) -> io::Result<()> {
     let mut nodes = Nodes::fresh();
     match enter(&mut nodes, text, labels) {

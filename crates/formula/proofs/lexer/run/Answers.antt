@@ -6,8 +6,8 @@ use Rattle.std.proofs.lemmas.Iterator.Search.{YieldsList-from_take_while}
 use Rattle.std.proofs.lemmas.List.Folds.{length-prefix_len}
 use Rattle.formula.proofs.lexer.run.Goals as goal
 
-pub returns : goal.returns
-returns g c = λ p belongs.
+pub returns-clause-cut : goal.returns-clause-cut
+returns-clause-cut g c = λ p belongs.
     let text = c.args.text.now in
     let n : c.count.result ≡ prefix_len p c.args.text.now =
     count_from_yields_List c.take_while.result _ c.count.ensures.ran
