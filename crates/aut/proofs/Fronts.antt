@@ -62,10 +62,6 @@ further whole lines i t rest h w f =
     joined None = refl
     joined (Some n) = let e : whole - length t + (n + (length t - length rest)) ≡ whole - length rest + n = omega (arith, f.shorter) in ap Some e
 
-pub broken : (whole : ℕ) (lines i : ℕ) (t : List ℕ) → i < lines → ((k : ℕ) → lines_length (suc k) t ≡ None) → option_map (λ n. whole - length t + n) (lines_length (lines - i) t) ≡ None
-broken whole lines i t h none =
-    ap (λ k. option_map (λ n. whole - length t + n) (lines_length k t)) (one_left lines i h) ∙ ap (option_map (λ n. whole - length t + n)) (none (lines - (i + 1)))
-
 -- line one as the reader finds it is the only one
 module _ (input : List ℕ) where
   found : (n : ℕ) (k : ModelFront input n) → first_line input ≡ Some (k.header, k.rest)

@@ -9,7 +9,6 @@ mod Pens
 mod Lengths
 mod Spelled
 mod Moves
-mod Tallies
 mod Walking
 mod Forms
 mod RoundTrip

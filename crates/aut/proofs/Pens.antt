@@ -5,9 +5,6 @@ use Rattle.std.specs.List.{flat_map}
 use Rattle.aut.specs.declared.pen.Pen.{Pen}
 use Rattle.aut.specs.Pens.{written, room, Wrote}
 
-pub wrote-nothing : (p : Pen) → Wrote p [] p
-wrote-nothing p = record { written_is = sym (append-nil (written p)); room_is = refl; text_is = refl }
-
 -- bytes after bytes
 pub then_wrote : (p q r : Pen) (x y : List ℕ) → Wrote p x q → Wrote q y r → Wrote p (x ++ y) r
 then_wrote p q r x y a b = record {
@@ -19,7 +16,3 @@ then_wrote p q r x y a b = record {
 -- the room that is left
 pub room_left : (p q : Pen) (x : List ℕ) → Wrote p x q → length (room q) ≡ length (room p) - length x
 room_left p q x a = ap length a.room_is ∙ length-drop (length x) (room p)
-
--- one item more
-pub flat_map_take : {X A : Type 0} (f : X → List A) (xs : List X) (i : ℕ) (d : X) → i < length xs → flat_map f (take (i + 1) xs) ≡ flat_map f (take i xs) ++ f (get_or xs i d)
-flat_map_take f xs i d h = ap (flat_map f) (take_more xs i d h) ∙ sym (flat_map_more f [] (take i xs) (get_or xs i d))

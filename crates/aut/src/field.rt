@@ -3,7 +3,8 @@ ghost use Rattle.aut.specs.Scanning.{turn_of};
 
 use base::spelling::{is_letter, is_name_byte};
 
-// The part of a line that is being read: of line one, `des (I,M,N)`, and of the others, `(s,"label",t)`. A gap is where one space may stand.
+// The part of a line that is being read: of line one, `des (I,M,N)`, and of the others, `(s,"label",t)`.
+// A gap is where one space may stand.
 #[derive(Clone, Copy, PartialEq, Eq)]
 pub(crate) enum Field {
     D,

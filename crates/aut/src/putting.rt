@@ -8,9 +8,10 @@ use crate::transition::Move;
 use base::labels::Labels;
 use itoa::Buffer;
 
-// How many bytes of a line, and of line one, are neither of a number nor of a name.
+// How many bytes of a line are neither of a number nor of the name.
 const LINE_MARKS: usize = b"(,\"\",)\n".len();
 
+// How many bytes of line one are not of a number.
 const HEAD_MARKS: usize = b"des (,,)\n".len();
 
 // How many digits a number has.
