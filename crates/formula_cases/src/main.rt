@@ -2,16 +2,13 @@
 // for the byte with that hexadecimal number. The label list is tau, a, b, c and abcdefghijklmnop.
 #![tactic(auto)]
 
-use base::action_set::ActionSet;
+use base::action_set::{ACTIONS, ActionSet};
 use base::labels::Labels;
 use formula::enter::enter;
 use formula::node::{Node, Part};
 use formula::nodes::Nodes;
 use std::alloc::{AllocError, Global};
 use std::{fmt, io};
-
-// How many actions there are.
-const ACTIONS: u8 = 64;
 
 // What a digit to the base sixteen counts; any other byte counts nothing.
 fn hex(digit: u8) -> u8 {
