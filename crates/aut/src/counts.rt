@@ -1,6 +1,6 @@
 ghost use Rattle.std.specs.Prelude.{◌≡◌, ◌+◌, ◌<◌, length, replicate, if◌then◌else◌, Some, None, nat_lt, slice_index, slice_set};
 
-use crate::reader::MOST_STATES;
+use model::question::MOST_STATES;
 
 // How many slots of each state are taken.
 #[derive(Drop)]
