@@ -89,7 +89,8 @@ impl<'a> Cursor<'a> {
     }
 
     // What follows NOT.
-    // kept: NOT and parentheses stand in reader.rt too; one reader over a trait gets no proof, as parentheses lead back through the trait's method.
+    // kept: NOT and parentheses stand in reader.rt too; one reader over a trait gets no proof, as parentheses lead back
+    // through the trait's method.
     #[cycle(braces)]
     fn other_actions(&self) -> Option<Found<'a, ActionSet>>
         ensures { ChoosesBy self.now (λ r ts. then (r Tight ts) (λ c rest. Some (complement c, rest))) result }
