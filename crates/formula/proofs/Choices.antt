@@ -18,7 +18,7 @@ use Rattle.formula.specs.declared.token.Token.{Token}
 use Rattle.formula.specs.declared.token.Token.TheVariants as token
 use Rattle.formula.specs.Choosing.{set_of, IsSet, ChoosesBy, Chooses}
 use Rattle.formula.specs.Finding.{Settles}
-use Rattle.formula.specs.Levels.{in_both}
+use Rattle.formula.specs.Levels.{combined}
 use Rattle.formula.specs.Levels as levels
 use Rattle.formula.specs.Places.{unread, ahead, moved, Closed}
 use Rattle.formula.specs.Reading.{past_sign, if_there, ended_by, in_braces, Got, Reader, then, OrLevel, Tight, Reads, action_at, action_rules}
@@ -51,7 +51,7 @@ no_action r m ts (inr (inl p)) = ap (λ k. action_at r k ts) p.1
 no_action r m ts (inr (inr p)) = ap (λ k. action_at r k ts) p.1
 
 module _ (names : List (List ℕ)) where
-  pub joined : (j : Joint) (c d : Acts) (l r u : ActionSet) → IsSet names c l → IsSet names d r → ((a : ℕ) → holds u a ≡ in_both j (holds l a) (holds r a)) →
+  pub joined : (j : Joint) (c d : Acts) (l r u : ActionSet) → IsSet names c l → IsSet names d r → ((a : ℕ) → holds u a ≡ combined j (holds l a) (holds r a)) →
       IsSet names (levels.joined action_rules j c d) u
   joined joint.Or c d l r u p q h a = h a ∙ ap (λ b. b || holds r a) (p a) ∙ ap (λ b. set_of names c a || b) (q a)
   joined joint.And c d l r u p q h a = h a ∙ ap (λ b. b && holds r a) (p a) ∙ ap (λ b. set_of names c a && b) (q a)

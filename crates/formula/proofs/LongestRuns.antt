@@ -53,10 +53,6 @@ past_of p (b ∷ w) rest h s =
     let k = and_parts (p b) (list_all p w) h in
     past-cons p b (w ++ rest) ∙ cond-true (p b) (past p (w ++ rest)) (b ∷ (w ++ rest)) k.0 ∙ past_of p w rest k.1 s
 
-passes : (w : List ℕ) → name_bytes w ≡ true → list_all name_byte w ≡ true
-passes [] h = refl
-passes (b ∷ w) h = let k = and_parts (name_byte b) (name_bytes w) h in and_from (name_byte b) (list_all name_byte w) k.0 (passes w k.1)
-
 -- Which bytes begin what.
 module _ (b : ℕ) where
   no_sign : (b ≡ 40 → ⊥) → (b ≡ 41 → ⊥) → (b ≡ 91 → ⊥) → (b ≡ 93 → ⊥) → (b ≡ 123 → ⊥) → (b ≡ 125 → ⊥) → sign b ≡ None
@@ -183,7 +179,7 @@ complete (a_name [] rest h s d) (suc n) l = absurd (both_ways _ refl h)
 complete (a_name (b ∷ w) rest {ts = ts} h s d) (suc n) l =
     let k = and_parts (leb (length (b ∷ w)) 16) (letter b && name_bytes (b ∷ w)) h in
     let c = and_parts (letter b) (name_bytes (b ∷ w)) k.1 in
-    let each : list_all name_byte (b ∷ w) ≡ true = passes (b ∷ w) c.1 in
+    let each : list_all name_byte (b ∷ w) ≡ true = c.1 in
     let is : take_while name_byte (b ∷ (w ++ rest)) ≡ b ∷ w = run_of name_byte (b ∷ w) rest each s in
     let whole : is_name (take_while name_byte (b ∷ (w ++ rest))) ≡ true = ap is_name is ∙ h in
     onward-found n b (w ++ rest) rest (name (b ∷ w)) ts

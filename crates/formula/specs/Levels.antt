@@ -33,6 +33,6 @@ abbrev pub node_of : Joint → ℕ → ℕ → Shape
 node_of joint.Or = or_node
 node_of joint.And = and_node
 
-abbrev pub in_both : Joint → Bool → Bool → Bool
-in_both joint.Or x y = x || y
-in_both joint.And x y = x && y
+abbrev pub combined : Joint → Bool → Bool → Bool
+combined joint.Or x y = x || y
+combined joint.And x y = x && y

@@ -1,4 +1,4 @@
--- The tokens of a text as a relation: spaces may stand anywhere between them, a sign is one character, and a word or a name is a longest run.
+-- The tokens of a text as a relation: spaces may stand between them, a sign is one character, and a word or a name is a longest run.
 -- The mark that a sign is stands as `signed`, since `Sign` is the type of signs.
 use Rattle.std.specs.Prelude.{◌≡◌, ℕ, Bool, true, not, List, [], ◌∷◌, ◌++◌, Some}
 use Rattle.std.specs.List.{list_all}

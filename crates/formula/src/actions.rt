@@ -3,7 +3,7 @@ ghost use Rattle.base.specs.Listing.{spelled};
 ghost use Rattle.base.specs.Labels.{listed};
 ghost use Rattle.base.specs.Sets.{holds};
 ghost use Rattle.formula.specs.Choosing.{IsSet, ChoosesBy, Chooses};
-ghost use Rattle.formula.specs.Levels.{operand, stage, in_both};
+ghost use Rattle.formula.specs.Levels.{operand, stage, combined};
 ghost use Rattle.formula.specs.Places.{unread, ahead, moved};
 ghost use Rattle.formula.specs.Reading.{OrLevel, Tight, then, in_group, in_braces};
 ghost use Rattle.formula.specs.Trees.{named, complement};
@@ -18,7 +18,7 @@ use base::name::Name;
 impl Joint {
     // The actions that two sets have together, or those that both have.
     fn set(self, left: ActionSet, right: ActionSet) -> ActionSet
-        ensures { (a : ℕ) → holds result a ≡ in_both self (holds left a) (holds right a) }
+        ensures { (a : ℕ) → holds result a ≡ combined self (holds left a) (holds right a) }
     {
         match self {
             Joint::Or => left.union(right),
@@ -89,7 +89,8 @@ impl<'a> Cursor<'a> {
     }
 
     // What follows NOT.
-    // kept: NOT and parentheses stand in reader.rt too; one reader over a trait gets no proof, as parentheses lead back through the trait's method.
+    // kept: NOT and parentheses stand in reader.rt too; one reader over a trait gets no proof, as parentheses lead back
+    // through the trait's method.
     #[cycle(braces)]
     fn other_actions(&self) -> Option<Found<'a, ActionSet>>
         ensures { ChoosesBy self.now (λ r ts. then (r Tight ts) (λ c rest. Some (complement c, rest))) result }

@@ -17,7 +17,7 @@ pub(crate) enum Joint {
     And,
 }
 
-// How much is read: a chain of what a word joins, or what binds closer than AND.
+// How much is read: a chain that a word joins, or what binds closer than both words.
 #[derive(Clone, Copy)]
 pub(crate) enum Level {
     Chain(Joint),
