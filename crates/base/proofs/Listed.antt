@@ -73,7 +73,7 @@ lawful-push y xs h n k =
     and_from _ _ (tau_first-push y xs p.0) (and_from _ _ (all_names-push y xs q.0 n) (distinct_push y xs q.1 k))
 
 -- a name is at most 16 bytes long
-name-fits : (y : List ℕ) → is_name y ≡ true → take 16 y ≡ y
+pub name-fits : (y : List ℕ) → is_name y ≡ true → take 16 y ≡ y
 name-fits y h = take_all 16 y (leb-true _ _ (and_parts (leb (length y) 16) (begins_name y && name_bytes y) h).0)
 
 -- the table with a new name written past the last

@@ -1,17 +1,11 @@
 -- What is cut from the front of a text.
-use Rattle.std.proofs.Common.{◌≡◌, ℕ, suc, ◌+◌, ◌<◌, Bool, true, false, cond, ◌&&◌, eqb, leb, List, [], ◌∷◌, length, take, drop, Some, None, Option, refl, ap, ◌∙◌, arith, length-drop}
+use Rattle.std.proofs.Common.{◌≡◌, ℕ, suc, ◌+◌, ◌<◌, Bool, true, false, cond, eqb, List, [], ◌∷◌, length, take, drop, Some, None, Option, refl, ap, ◌∙◌, arith, length-drop}
 use Rattle.std.specs.List.{prefix_len}
 use Rattle.std.specs.Option.{option_map}
-use Rattle.std.proofs.lemmas.List.{take_all}
-use Rattle.std.proofs.lemmas.Bool.{leb-true, and_parts}
-use Rattle.base.specs.Names.{name_byte, begins_name, name_bytes, is_name}
+use Rattle.base.specs.Names.{name_byte, is_name}
 use Rattle.formula.specs.declared.mark.Mark.{Mark}
 use Rattle.formula.specs.declared.mark.Mark.TheVariants.{Sign as signed}
 use Rattle.formula.specs.Tokens.{capital, past, sign, word, Front, ended, broken, found, name, found_mark, word_at, name_at, token_at, front}
-
--- a name is at most 16 bytes long
-pub name-fits : (y : List ℕ) → is_name y ≡ true → take 16 y ≡ y
-name-fits y h = take_all 16 y (leb-true _ _ (and_parts (leb (length y) 16) (begins_name y && name_bytes y) h).0)
 
 -- what follows spaces
 pub past_spaces : (bs : List ℕ) → front bs ≡ token_at (past (λ b. eqb b 32) bs)

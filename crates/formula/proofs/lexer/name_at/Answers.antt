@@ -1,5 +1,5 @@
 use Rattle.std.proofs.Common.{rules, sym}
-use Rattle.formula.proofs.Runs.{name-fits}
+use Rattle.base.proofs.Listed.{name-fits}
 use Rattle.formula.proofs.lexer.name_at.Goals as goal
 
 pub returns : goal.returns
