@@ -20,6 +20,7 @@ fn nodes_of(text: &[u8]) -> Result<Nodes, Refusal> {
 }
 
 // Marks each node on the sheet of its number.
+// kept: marking_cases has this loop too; marking a whole formula is left to the study to come, and a crate for three lines is no plainer.
 fn mark_all<M: Model, S: Shelf>(model: &M, shelf: &mut S, nodes: &Nodes) -> Result<(), Refusal> {
     for (number, node) in nodes.as_slice().iter().enumerate() {
         mark(model, shelf, *node, number)?;

@@ -5,4 +5,3 @@ pub mod Orders
 pub mod Sweeping
 pub mod Operators
 pub mod Rightly
-mod Tables
