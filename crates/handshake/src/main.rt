@@ -24,7 +24,8 @@ fn actions() -> Result<Labels, Refusal> {
     Labels::of(&["send", "ack", "quit", "poll", "drop"])
 }
 
-// What became of a model that was written, read back and written again: its text, how many states were read, and whether both texts are the same.
+// What became of a model that was written, read back and written again: its text, how many states were read, and whether both texts
+// are the same.
 struct Trip<'t> {
     text: &'t [u8],
     states: usize,
