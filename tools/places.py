@@ -44,7 +44,7 @@ def matches(pattern):
     return found
 
 
-HEAD = re.compile(r"fn ([a-z_]+)(<[^(]*>)?\(([^)]*)\)([^{;\n]*)")
+HEAD = re.compile(r"fn ([a-z_]+)(<(?:[^()]|\([^()]*\))*?>)?\(([^)]*)\)([^{;\n]*)")
 
 
 def functions():
