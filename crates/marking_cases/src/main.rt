@@ -113,7 +113,7 @@ fn make_models() -> Result<Models, Refusal> {
     Ok(Models {
         labels,
         counter,
-        pair: join(sender, poller, ActionSet::only(4))?,
+        pair: join(sender, poller, ActionSet::only(4)).map_err(|apart| apart.why)?,
     })
 }
 

@@ -83,7 +83,9 @@ fn refused(rt: HostRuntime) -> Result<(), Fail> {
         Some(Refusal::TooBig)
     );
     assert_eq!(rt;
-        join(counter, counter, ActionSet::all()).err(),
+        join(counter, counter, ActionSet::all())
+            .err()
+            .map(|apart| apart.why),
         Some(Refusal::Silent)
     );
     let one = Size {
