@@ -12,7 +12,7 @@ use Rattle.base.specs.declared.refusal.Refusal.TheVariants.{Short, Nameless, Too
 use Rattle.base.specs.declared.labels.Labels.{Labels}
 use Rattle.base.specs.Listing.{lawful}
 use Rattle.base.specs.Labels.{listed}
-use Rattle.base.proofs.Listed.{length-listed}
+use Rattle.base.proofs.Listed.{listed-fits}
 use Rattle.meaning.specs.Lts.{Slot, Lts, named_within}
 use Rattle.model.specs.declared.cell.Cell.{Cell}
 use Rattle.model.specs.Cells.{blank, slot_of, slot_at, sound, grid_refusal}
@@ -218,7 +218,7 @@ module _ (M : Lts) (before : Labels) (room w size : ℕ) (ok : write_answer M (l
       not_from_false _ (or_from _ _
       (any_none M.states (λ s. ltb w (length (leaving s ls)))
       (λ s h. le-ltb w (length (leaving s ls)) (omega (arith, ap length (leaving-is M names M.states s h), length-map (moves_of M s) (as_line names), few s h))))
-      (le-ltb 64 (length (met names ls)) (omega (arith, ap length (met-none names (moves M) have), length-listed before.table before.count before.rows before.few, before.few))))
+      (le-ltb 64 (length (met names ls)) (omega (arith, ap length (met-none names (moves M) have), listed-fits before))))
 
   head_ok : head_fits 65536 (header_for M) ≡ true
   head_ok =

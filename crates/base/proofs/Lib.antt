@@ -1,4 +1,4 @@
-mod OneMore
+pub mod Holding
 pub mod Listed
 pub mod Bitwise
 pub mod Adding

@@ -1,5 +1,6 @@
 pub mod Refusals
 pub mod Names
+pub mod Few
 pub mod Labels
 pub mod Listing
 pub mod Sets

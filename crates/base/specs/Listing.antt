@@ -1,20 +1,17 @@
 -- The list of names that a label list holds, and what looking up and adding make of it.
-use Rattle.std.specs.Prelude.{ℕ, Bool, true, false, cond, not, ◌&&◌, List, [], ◌∷◌, ◌++◌, map, length, take, Some, None, Ok, Err, codes, Option, Result, nat_le}
+use Rattle.std.specs.Prelude.{ℕ, Bool, true, false, cond, not, ◌&&◌, List, [], ◌∷◌, ◌++◌, map, length, Some, None, Ok, Err, codes, Option, Result, nat_le}
 use Rattle.std.specs.List.{list_all, list_any, position_from}
 use Rattle.std.specs.Str.{bytes_eq}
 use Rattle.std.specs.Borrow.{Bor}
+use Rattle.base.specs.Few.{held}
 use Rattle.base.specs.Names.{is_name}
 use Rattle.base.specs.declared.name.Name.{Name}
 use Rattle.base.specs.declared.refusal.Refusal.{Refusal}
 use Rattle.base.specs.declared.refusal.Refusal.TheVariants.{Garbled, Crowded}
 
--- a name, as bytes: the first `len` of the room for 16
+-- a name, as bytes
 abbrev pub spelled : Name → List ℕ
-spelled n = take n.len n.bytes
-
--- the names in use: the first `count` of the table
-abbrev pub first_names : List Name → ℕ → List (List ℕ)
-first_names table count = map spelled (take count table)
+spelled n = held n.bytes
 
 -- the place of the first name that is spelled so, counting from k
 abbrev pub place : ℕ → List ℕ → List (List ℕ) → Option ℕ

@@ -2,6 +2,7 @@ ghost use Rattle.std.specs.Prelude.{◌≡◌, ℕ, Bool, true, false, not, ◌&
 ghost use Rattle.base.specs.Sets.{holds};
 
 // How many actions there are: they are numbered from 0 to 63.
+// kept: an action is a plain number: a type of its own would ask more of callers than a number does.
 pub const ACTIONS: u8 = 64;
 
 // A set of actions.

@@ -1,8 +1,10 @@
-ghost use Rattle.std.specs.Prelude.{◌≡◌, ◌≤◌, ◌<◌, true, length, IfSome};
+ghost use Rattle.std.specs.Prelude.{◌≡◌, ◌<◌, true, length, map, IfSome};
 ghost use Rattle.std.specs.List.{position};
 ghost use Rattle.std.specs.Str.{bytes_eq};
-ghost use Rattle.base.specs.Listing.{spelled, lawful, first_names};
+ghost use Rattle.base.specs.Few.{held};
+ghost use Rattle.base.specs.Listing.{spelled, lawful};
 
+use crate::few::Few;
 use crate::name::Name;
 use crate::refusal::Refusal;
 use crate::spelling::is_name;
@@ -11,14 +13,10 @@ use crate::spelling::is_name;
 pub const MOST_NAMES: usize = 64;
 
 // A label list: the names of the actions, each at its action's number. Tau is action 0; no name stands twice.
-// kept: a table with its count: a vector of fixed capacity is not Copy, and its clone can fail, which no call here can.
 #[derive(Clone, Copy)]
 pub struct Labels {
-    pub(crate) table: [Name; MOST_NAMES],
-    pub(crate) count: usize,
-    ghost rows: { length table ≡ 64 },
-    ghost few: { count ≤ 64 },
-    ghost kept: { lawful (first_names table count) ≡ true },
+    names: Few<Name, MOST_NAMES>,
+    ghost kept: { lawful (map spelled (held names)) ≡ true },
 }
 
 // The place of the first of the names that is spelled so.
@@ -30,7 +28,7 @@ fn place_of(name: &[u8], names: &[Name]) -> Option<usize>
 }
 
 impl Labels {
-    ghost use Rattle.std.specs.Prelude.{[], ◌∷◌, map, Ok, Err, MatchResult, codes};
+    ghost use Rattle.std.specs.Prelude.{[], ◌∷◌, Ok, Err, MatchResult, codes};
     ghost use Rattle.std.specs.Option.{option_map};
     ghost use Rattle.std.specs.List.{slice_get};
     ghost use Rattle.base.specs.Listing.{action_of, add_answer, add_names, all_added};
@@ -40,9 +38,9 @@ impl Labels {
     pub fn fresh() -> Labels
         ensures { listed result ≡ codes "tau" ∷ [] }
     {
+        let tau = Name::of(b"tau");
         Labels {
-            table: [Name::of(b"tau"); MOST_NAMES],
-            count: 1,
+            names: Few::of(&[tau], tau),
         }
     }
 
@@ -61,7 +59,7 @@ impl Labels {
     pub fn names(&self) -> &[Name]
         ensures { map spelled result.now ≡ listed self.now }
     {
-        &self.table[..self.count]
+        self.names.as_slice()
     }
 
     // The action that a name stands for.
@@ -76,7 +74,7 @@ impl Labels {
     pub fn name_of(&self, action: u8) -> Option<&[u8]>
         ensures { option_map (λ x. x.now) result ≡ slice_get (listed self.now) action }
     {
-        Some(self.names().get(action as usize)?.as_bytes())
+        Some(self.names().get(usize::from(action))?.as_bytes())
     }
 
     // How many names there are, tau among them.
@@ -97,12 +95,8 @@ impl Labels {
         if let Some(action) = self.lookup(name) {
             return Ok(action);
         }
-        let at = self.count;
-        if at >= MOST_NAMES {
-            return Err(Refusal::Crowded);
-        }
-        self.table[at] = Name::of(name);
-        self.count = at + 1;
-        Ok(at as u8)
+        let action = self.count();
+        self.names.push(Name::of(name)).ok_or(Refusal::Crowded)?;
+        Ok(action as u8)
     }
 }

@@ -1,16 +1,14 @@
-ghost use Rattle.std.specs.Prelude.{◌≡◌, ◌≤◌, true, length};
+ghost use Rattle.std.specs.Prelude.{◌≡◌, true, length};
+
+use crate::few::Few;
 
 // The most bytes that a name has.
 pub const LONGEST_NAME: usize = 16;
 
 // The bytes of a name as far as it is read: at most 16.
-// kept: bytes with their count, since a name is Copy and holds any byte: no vector of fixed capacity is Copy, and a string of one is UTF-8.
 #[derive(Clone, Copy)]
 pub struct Name {
-    pub(crate) bytes: [u8; LONGEST_NAME],
-    pub(crate) len: usize,
-    ghost room: { length bytes ≡ 16 },
-    ghost fits: { len ≤ 16 },
+    bytes: Few<u8, LONGEST_NAME>,
 }
 
 // Whether two texts are equally long and end with the same byte, as equal texts do. Names of one family mostly differ at the end, so
@@ -32,8 +30,7 @@ impl Name {
         ensures { spelled result ≡ [] }
     {
         Name {
-            bytes: [0; LONGEST_NAME],
-            len: 0,
+            bytes: Few::none(0),
         }
     }
 
@@ -42,29 +39,23 @@ impl Name {
         ensures answer { result ≡ cond (nat_lt (length (spelled self.old)) 16) (Some tt) None }
         ensures after { spelled self.new ≡ cond (nat_lt (length (spelled self.old)) 16) (spelled self.old ++ byte ∷ []) (spelled self.old) }
     {
-        if self.len >= LONGEST_NAME {
-            return None;
-        }
-        self.bytes[self.len] = byte;
-        self.len += 1;
-        Some(())
+        self.bytes.push(byte)
     }
 
     // The first bytes of a text, 16 at most.
     pub fn of(text: &[u8]) -> Name
         ensures { spelled result ≡ take 16 text.now }
     {
-        let len = text.len().min(LONGEST_NAME);
-        let mut bytes = [0; LONGEST_NAME];
-        bytes[..len].copy_from_slice(&text[..len]);
-        Name { bytes, len }
+        Name {
+            bytes: Few::of(text, 0),
+        }
     }
 
     // The bytes.
     pub fn as_bytes(&self) -> &[u8]
         ensures { result.now ≡ spelled self.now }
     {
-        &self.bytes[..self.len]
+        self.bytes.as_slice()
     }
 
     // Whether it is spelled so.

@@ -31,7 +31,7 @@ pub enum Refusal {
 
 impl Refusal {
     // The number by which it is told.
-    // kept: a method beside `From`, since a line that is printed says no type to convert to.
+    // kept: beside `From`, as the plainer word at its many callers.
     pub fn number(self) -> u8
         ensures { result ≡ number_of self }
     {

@@ -1,10 +1,12 @@
 -- From the tokens of a text to what entering it answers.
-use Rattle.std.proofs.Common.{◌≡◌, ℕ, ◌+◌, ◌-◌, ◌*◌, ◌≤◌, Bool, true, false, cond, eqb, ltb, ◌⊎◌, List, [], ◌∷◌, ◌++◌, map, length, take, Some, None, Ok, Err, Option, Result, sym, refl, ap, ◌∙◌, subst, inl, inr, arith}
-use Rattle.std.proofs.lemmas.List.{length-append, length-map, length-take}
+use Rattle.std.proofs.Common.{◌≡◌, ℕ, ◌+◌, ◌-◌, ◌*◌, ◌≤◌, Bool, true, false, cond, eqb, ltb, ◌⊎◌, List, [], ◌∷◌, ◌++◌, map, length, Some, None, Ok, Err, Option, Result, sym, refl, ap, ◌∙◌, subst, inl, inr, arith}
+use Rattle.std.proofs.lemmas.List.{length-append, length-map}
 use Rattle.std.proofs.lemmas.Bool.{cond-true, cond-false, lt-ltb, le-ltb, both_ways, eqb-true, false≢true}
 use Rattle.base.specs.declared.refusal.Refusal.{Refusal}
 use Rattle.base.specs.declared.refusal.Refusal.TheVariants.{Grammar, Full}
 use Rattle.std.proofs.lemmas.Option.{same_Some}
+use Rattle.base.specs.Few.{held}
+use Rattle.base.proofs.Holding.{held-fits}
 use Rattle.formula.specs.declared.nodes.Entry.{Entry}
 use Rattle.formula.specs.declared.nodes.Nodes.{Nodes}
 use Rattle.formula.specs.Entering.{all_listed, fits, verdict, verdict_on, verdict_at, Whole, Written, Checked, Planned, Refused, Entered}
@@ -36,7 +38,7 @@ tree_some ts (x ∷ rest) t a h = let k = eqb-true (length (x ∷ rest)) 0 (sym 
 
 -- there are 48 nodes at most
 pub few_shapes : (n : Nodes) → length (shapes n) ≤ 48
-few_shapes n = omega (arith, length-map (take n.count n.table) shape, length-take n.count n.table, n.few)
+few_shapes n = omega (arith, length-map (held n.nodes) shape, held-fits n.nodes)
 
 -- the verdict, by how the nodes were laid
 module _ (names : List (List ℕ)) (ts : List Tok) (t : Tree) (xs : List Shape) (few : length xs ≤ 48) (known : true ≡ all_listed names ts) where

@@ -1,6 +1,6 @@
 -- Formulas in a table of nodes, children first.
 -- Nodes and trees have like names, so theirs stand after `node` and `tree`.
-use Rattle.std.specs.Prelude.{ℕ, ◌-◌, cond, List, [], ◌∷◌, ◌++◌, map, length, take, Some, None, Option, nat_lt, slice_index_or}
+use Rattle.std.specs.Prelude.{ℕ, ◌-◌, cond, List, [], ◌∷◌, ◌++◌, map, length, Some, None, Option, nat_lt, slice_index_or}
 use Rattle.std.specs.List.{fold}
 use Rattle.std.specs.Option.{option_map}
 use Rattle.formula.specs.declared.mark.Operator.{Operator}
@@ -12,6 +12,7 @@ use Rattle.formula.specs.declared.nodes.Draft.{Draft}
 use Rattle.formula.specs.declared.nodes.Nodes.{Nodes}
 use Rattle.formula.specs.Choosing.{set_of}
 use Rattle.formula.specs.Formulas.{Actions, Formula, TRUE, FALSE, NOT, AND, OR, short, path}
+use Rattle.base.specs.Few.{held}
 use Rattle.base.specs.Sets.{holds}
 use Rattle.formula.specs.Trees as tree
 use Rattle.formula.specs.Trees.{Tree}
@@ -37,7 +38,7 @@ shape (node.Path q l p r) = path_node q l (holds p.actions) p.child (holds r.act
 
 -- the nodes in use
 abbrev pub shapes : Nodes → List Shape
-shapes n = map shape (take n.count n.table)
+shapes n = map shape (held n.nodes)
 
 -- the formula of a node, by the formulas of the nodes before it
 abbrev pub build : List Formula → Shape → Formula

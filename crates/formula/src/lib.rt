@@ -11,5 +11,4 @@ pub mod mark;
 pub mod node;
 pub mod nodes;
 mod reader;
-mod table;
 mod token;
