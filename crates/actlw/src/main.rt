@@ -1,3 +1,4 @@
+// Reads a model and formulas from standard input, and says what it read, or which refusal came.
 #![tactic(auto)]
 
 ghost use Rattle.std.specs.Prelude.{◌≡◌, IfOk, string_bytes};
@@ -12,18 +13,20 @@ use formula::nodes::Nodes;
 use model::cell::Cell;
 use model::deadlock::deadlocks;
 use model::grid::Grid;
-use model::size::Size;
 use std::alloc::{AllocError, Global};
 use std::io;
 use std::io::Read;
 
-// What the program takes: standard input of at most this many bytes, a model of at most this many states, and so many slots a state.
+// The most bytes of standard input that are taken.
 const MOST_INPUT: usize = 32_768;
 
+// The most states of a model.
 const MOST_STATES: usize = 512;
 
+// The slots of each state.
 const SLOTS: usize = 8;
 
+// Room for the largest model.
 const CELLS: usize = MOST_STATES * SLOTS;
 
 // Standard input, as far as one byte past what the program takes.
@@ -52,6 +55,7 @@ fn summary(
     )
 }
 
+// Says the number of a refusal.
 fn refuse(rt: &HostRuntime, why: Refusal) -> io::Result<()> {
     println!(rt; "refused {}", why.number())
 }
@@ -76,11 +80,7 @@ fn read_formulas(rt: &HostRuntime, text: &[u8], labels: &Labels) -> io::Result<(
 
 // Says what was read of the model.
 fn report(rt: &HostRuntime, header: Header, labels: &Labels, cells: &[Cell]) -> io::Result<()> {
-    let size = Size {
-        states: header.states,
-        slots: SLOTS,
-    };
-    match Grid::over(cells, size, header.start) {
+    match Grid::over(cells, header.size(SLOTS), header.start) {
         Ok(grid) => {
             rt.println(summary(rt.alloc(), header, labels.count() - 1, deadlocks(&grid))?)
         }
@@ -88,6 +88,7 @@ fn report(rt: &HostRuntime, header: Header, labels: &Labels, cells: &[Cell]) -> 
     }
 }
 
+// Reads the model at the front of the input, and the lines after it as formulas.
 fn main(rt: HostRuntime) -> io::Result<()> {
     let input = read_input(&rt)?;
     let mut labels = Labels::fresh();

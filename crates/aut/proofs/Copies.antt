@@ -1,5 +1,5 @@
 -- Copying by way of text: what was written is what is read.
-use Rattle.std.proofs.Common.{◌≡◌, ℕ, ◌≤◌, Bool, true, false, cond, not, ltb, List, length, take, drop, Ok, Err, Result, sym, refl, ap, ◌∙◌, subst, arith}
+use Rattle.std.proofs.Common.{◌≡◌, ℕ, ◌≤◌, Bool, true, false, cond, not, ltb, List, length, take, drop, Ok, Err, Result, sym, refl, ap, ◌∙◌, subst}
 use Rattle.std.proofs.lemmas.List.{take_at}
 use Rattle.std.proofs.lemmas.Bool.{ltb-false}
 use Rattle.base.specs.declared.refusal.Refusal.{Refusal}
@@ -12,6 +12,7 @@ use Rattle.aut.specs.declared.header.Header.{Header}
 use Rattle.aut.specs.Reading.{Read}
 use Rattle.aut.specs.Writing.{moves, text_of, all_have_names, write_answer, write_after, written_over}
 use Rattle.aut.specs.Back.{Copied}
+use Rattle.aut.proofs.Apart.{not_ok}
 use Rattle.aut.proofs.RoundTrip.{reads-back}
 
 -- an answer that is a length is the text's
@@ -20,9 +21,9 @@ is-length M names room n e = at (ltb 65536 (length (moves M))) (all_have_names n
   where
     at : (a b c : Bool) → ltb room (length (text_of M names)) ≡ c →
         cond a (Err TooBig) (cond (not b) (Err Nameless) (cond c (Err Short) (Ok (length (text_of M names))))) ≡ Ok n → (n ≡ length (text_of M names)) × (length (text_of M names) ≤ room)
-    at true b c f k = let z : ◌≡◌ {A = ℕ} 0 1 = cc in absurd (omega arith)
-    at false false c f k = let z : ◌≡◌ {A = ℕ} 0 1 = cc in absurd (omega arith)
-    at false true true f k = let z : ◌≡◌ {A = ℕ} 0 1 = cc in absurd (omega arith)
+    at true b c f k = not_ok _ k
+    at false false c f k = not_ok _ k
+    at false true true f k = not_ok _ k
     at false true false f k = (cc, ltb-false room (length (text_of M names)) f)
 
 module _ (M : Lts) (w : ℕ) (before : Labels) (text text' : List ℕ) (cells : List Cell) where
@@ -39,7 +40,7 @@ module _ (M : Lts) (w : ℕ) (before : Labels) (text text' : List ℕ) (cells : 
   }
     where
       no_refusal : {X : Type 0} (e : Refusal) → ◌≡◌ {A = Result ℕ Refusal} (Ok n) (Err e) → X
-      no_refusal e p = let z : ◌≡◌ {A = ℕ} 0 1 = cc in absurd (omega arith)
+      no_refusal e p = not_ok _ (sym p)
 
       the_text : take n text' ≡ text_of M (listed before)
       the_text =

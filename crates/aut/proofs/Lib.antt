@@ -1,3 +1,4 @@
+mod Apart
 mod Readings
 mod Rooms
 mod Slots

@@ -20,6 +20,7 @@ use Rattle.aut.specs.Form.{Transition, Form}
 use Rattle.aut.specs.Reading.{leaving, met, all_within, has_room, head_fits, settled, verdict, oversize, cell_or_blank, Filled}
 use Rattle.aut.specs.Writing.{Move, slot_moves, moves_at, moves_of, moves_below, moves, head_text, moves_text, text_of, all_have_names, write_answer}
 use Rattle.aut.specs.Back.{as_line, as_lines, header_for, ReadsBack}
+use Rattle.aut.proofs.Apart.{not_ok}
 use Rattle.aut.proofs.Spelled.{all_are_names, known_at, action_at}
 use Rattle.aut.proofs.Lengths.{head-long}
 use Rattle.aut.proofs.Moves.{text_below, text_long}
@@ -158,7 +159,7 @@ module _ (M : Lts) (names : List (List ℕ)) (room n : ℕ) (ok : write_answer M
     where
       at : (b : Bool) → ltb 65536 (length (moves M)) ≡ b →
           cond b (Err TooBig) (cond (not (all_have_names names (moves M))) (Err Nameless) (cond (ltb room (length (text_of M names))) (Err Short) (Ok (length (text_of M names))))) ≡ Ok n → length (moves M) ≤ 65536
-      at true e k = let z : ◌≡◌ {A = ℕ} 0 1 = cc in absurd (omega arith)
+      at true e k = not_ok _ k
       at false e k = ltb-false 65536 (length (moves M)) e
 
   pub have_names : all_have_names names (moves M) ≡ true
@@ -166,7 +167,7 @@ module _ (M : Lts) (names : List (List ℕ)) (room n : ℕ) (ok : write_answer M
     where
       at : (b : Bool) → all_have_names names (moves M) ≡ b → cond (not b) (Err Nameless) (cond (ltb room (length (text_of M names))) (Err Short) (Ok (length (text_of M names)))) ≡ Ok n → all_have_names names (moves M) ≡ true
       at true e k = e
-      at false e k = let z : ◌≡◌ {A = ℕ} 0 1 = cc in absurd (omega arith)
+      at false e k = cc
 
 module _ (M : Lts) (before : Labels) (room w size : ℕ) (ok : write_answer M (listed before) room ≡ Ok (length (text_of M (listed before))))
     (some : 1 ≤ w) (wide : w ≤ 64) (few : (s : ℕ) → s < M.states → length (moves_of M s) ≤ w) (enough : M.states * w ≤ size) where

@@ -9,7 +9,7 @@ use model::cell::Cell;
 use model::question::Model;
 
 // Copies any model into cells by way of its text: writes it, and reads what was written with the same label list.
-// kept: its inputs one by one, as those of `read` and `write`, which it hands them on to.
+// kept: its five inputs one by one: the model is for `write`, the cells and slots for `read`, the labels and the text for both.
 pub fn copy_through_text<M: Model>(
     model: &M,
     labels: &mut Labels,

@@ -24,7 +24,7 @@ impl Counts {
         requires { state < 65536 }
         ensures { result ≡ (if nat_lt (slice_index self.now.taken state) slots then Some (slice_index self.now.taken state) else None) }
     {
-        let slot = self.taken[state] as usize;
+        let slot = usize::from(self.taken[state]);
         (slot < slots).then_some(slot)
     }
 

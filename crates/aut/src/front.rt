@@ -38,7 +38,7 @@ pub fn front_length(input: &[u8]) -> Option<usize>
 }
 
 // Reads the model at the front of an input of at most `longest` bytes, and answers its length too.
-// kept: its inputs one by one, as those of `read_within`: the rule for readers names them.
+// kept: its six inputs one by one, as the five of `read_within` and how long the input may be: the rule for readers names them.
 pub fn read_front(
     input: &[u8],
     longest: usize,

@@ -1,3 +1,5 @@
+use model::size::Size;
+
 // The most transitions that a text may have.
 pub(crate) const MOST_TRANSITIONS: usize = 65_536;
 
@@ -7,4 +9,18 @@ pub struct Header {
     pub start: usize,
     pub transitions: usize,
     pub states: usize,
+}
+
+impl Header {
+    ghost use Rattle.std.specs.Prelude.{◌≡◌};
+
+    // The size of the model, if each state has so many slots.
+    pub fn size(self, slots: usize) -> Size
+        ensures { result ≡ record { states = self.states; slots = slots } }
+    {
+        Size {
+            states: self.states,
+            slots,
+        }
+    }
 }

@@ -1,7 +1,7 @@
 ghost use Rattle.std.specs.Prelude.{◌≤◌, length};
 
 // A text as far as it is written: the bytes before a place are, and those from there on are room.
-// kept: a place in the whole text: with the slice that is left alone, no contract could say at the end what stands before it.
+// kept: a place in the whole text: what is written is told from the whole, which a slice of what is left does not show.
 #[derive(Drop)]
 pub(crate) struct Pen<'a> {
     text: &'a mut [u8],

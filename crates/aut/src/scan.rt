@@ -9,6 +9,7 @@ use crate::transition::{Edge, Line};
 use base::name::Name;
 
 // The reader within a line: the field, the number being read if a digit of it was, and what was read before.
+// kept: one reader for both kinds of line, of which callers see the half that is real; one for each would say its steps twice.
 #[derive(Clone, Copy)]
 struct Scan {
     field: Field,
@@ -44,7 +45,7 @@ impl Scan {
     fn digit(&mut self, field: Field, value: u8) -> Option<()>
         ensures { option_map (λ _. view self.new) result ≡ digit_in field value (view self.old) }
     {
-        let value = value as usize;
+        let value = usize::from(value);
         let number = match self.number {
             None => value,
             Some(number) if 0 < number && number < 10_000 => number * 10 + value,

@@ -9,6 +9,7 @@ use model::cell::Cell;
 use std::alloc::{AllocError, Global};
 use std::{fmt, io};
 
+// No text of the table is read into more cells.
 const MOST_CELLS: usize = 4_096;
 
 // A mark that no reading leaves, to show which cells were written.
@@ -18,6 +19,7 @@ const UNTOUCHED: Cell = Cell {
     target: 9,
 };
 
+// The bytes that a text of the table stands for.
 fn decode(heap: Global, line: &str) -> Result<Vec<u8>, AllocError> {
     let mut text = Vec::new(heap);
     let mut bytes = line.bytes();
@@ -64,6 +66,7 @@ impl fmt::Display for Cells<'_> {
     }
 }
 
+// Prints what was read.
 fn print_read(rt: &HostRuntime, header: Header, labels: &Labels, cells: &[Cell]) -> io::Result<()> {
     let Header {
         start,
@@ -74,10 +77,12 @@ fn print_read(rt: &HostRuntime, header: Header, labels: &Labels, cells: &[Cell])
     println!(rt; "labels{}; cells{}", Names(labels), Cells(cells))
 }
 
+// Whether no cell was written.
 fn untouched(cells: &[Cell]) -> bool {
     cells.iter().all(|cell| *cell == UNTOUCHED)
 }
 
+// Reads a text into so many cells, and prints what came of it. A refusal must leave the labels and the cells as they were.
 fn run(rt: &HostRuntime, slots: usize, count: usize, text: &[u8]) -> io::Result<()> {
     let mut labels = Labels::fresh();
     let mut room = [UNTOUCHED; MOST_CELLS];
@@ -91,6 +96,7 @@ fn run(rt: &HostRuntime, slots: usize, count: usize, text: &[u8]) -> io::Result<
     }
 }
 
+// Runs each line of the table.
 fn main(rt: HostRuntime) -> anyhow::Result<()> {
     for line in rt.lines(rt.alloc()) {
         let line = line?;
@@ -123,6 +129,7 @@ mod tests {
         read(text, &mut labels, &mut cells, 1).map_err(|why| why.number())
     }
 
+    // A text of the most bytes is read, and is not of the form; one byte more is refused as too large.
     #[test]
     fn longest_text(rt: HostRuntime) -> Result<(), Fail> {
         let mut text = vec![in rt.alloc(); b'x'; 2_500_000]?;
@@ -132,6 +139,7 @@ mod tests {
         Ok(())
     }
 
+    // A text with so many lines after its line one, all the same.
     fn loops(heap: Global, head: &str, lines: usize) -> Result<Vec<u8>, AllocError> {
         let mut text = head.as_bytes().to_vec(heap)?;
         for _ in 0..lines {
@@ -140,6 +148,7 @@ mod tests {
         Ok(text)
     }
 
+    // The most transitions that a text may have find too few slots here; with one more it is refused as too large.
     #[test]
     fn most_transitions(rt: HostRuntime) -> Result<(), Fail> {
         let most = loops(rt.alloc(), "des (0,65536,1)\n", 65_536)?;

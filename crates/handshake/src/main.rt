@@ -12,12 +12,12 @@ use model::grid::Grid;
 use model::joining::join;
 use model::question::Model;
 use model::retry_counter::RetryCounter;
-use model::size::Size;
 
 // Room for the text of 9 states with 15 slots each.
 const ROOM: usize = 4_096;
 
-const CELLS: usize = 135;
+// As many cells as these have slots.
+const CELLS: usize = 9 * 15;
 
 // The actions of a thermostat and a server that each count what they sent, and are answered together.
 fn actions() -> Result<Labels, Refusal> {
@@ -32,6 +32,7 @@ struct Trip<'t> {
     same: bool,
 }
 
+// Writes a model, reads its text into a grid, and writes the grid again.
 fn round_trip<'t, M: Model>(
     model: &M,
     labels: &mut Labels,
@@ -40,11 +41,7 @@ fn round_trip<'t, M: Model>(
     let mut cells = [Cell::EMPTY; CELLS];
     let slots = model.slots();
     let header = copy_through_text(model, labels, text, &mut cells, slots)?;
-    let size = Size {
-        states: header.states,
-        slots,
-    };
-    let grid = Grid::over(&cells, size, header.start)?;
+    let grid = Grid::over(&cells, header.size(slots), header.start)?;
     let mut again = [0; ROOM];
     let length = write(&grid, labels, &mut again)?;
     Ok(Trip {
@@ -54,6 +51,7 @@ fn round_trip<'t, M: Model>(
     })
 }
 
+// Joins the two counters, and prints the product and what became of it.
 fn main(rt: HostRuntime) -> anyhow::Result<()> {
     let mut labels = actions()?;
     let thermostat = RetryCounter::new(2, 1, 2, 3)?;

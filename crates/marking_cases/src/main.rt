@@ -128,13 +128,9 @@ struct Held {
 impl Held {
     // The model that line one says, over its cells.
     fn by(header: Header, cells: [Cell; CELLS], slots: usize) -> Held {
-        let size = Size {
-            states: header.states,
-            slots,
-        };
         Held {
             cells,
-            size,
+            size: header.size(slots),
             start: header.start,
         }
     }

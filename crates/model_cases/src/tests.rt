@@ -9,8 +9,10 @@ use model::retry_counter::RetryCounter;
 use model::size::Size;
 use std::test::Fail;
 
+// The action that is shared.
 const ACK: u8 = 2;
 
+// Two states with one slot each: an acknowledgement leads from the first to the second, and action 9 back.
 const TWO_STATES: [Cell; 2] = [
     Cell {
         filled: true,

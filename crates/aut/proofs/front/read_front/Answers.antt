@@ -1,10 +1,11 @@
-use Rattle.std.proofs.Common.{◌≡◌, ℕ, length, Some, None, Ok, Err, MatchOption, Option, Result, refl, sym, ap, arith}
+use Rattle.std.proofs.Common.{◌≡◌, ℕ, length, Some, None, Ok, Err, MatchOption, Option, Result, refl, sym, ap}
 use Rattle.std.specs.Option.{ok_or}
 use Rattle.std.proofs.lemmas.Bool.{le-ltb}
 use Rattle.std.proofs.lemmas.Result.{err_from_is_err_and}
 use Rattle.base.specs.declared.refusal.Refusal.{Refusal}
 use Rattle.base.specs.declared.refusal.Refusal.TheVariants.{Garbled}
 use Rattle.aut.specs.declared.header.Header.{Header}
+use Rattle.aut.proofs.Apart.{not_ok}
 use Rattle.aut.proofs.Fronts.{none_read, front_read}
 use Rattle.aut.proofs.front.read_front.Goals as goal
 
@@ -12,12 +13,12 @@ placed : (h h' : Header) (j n : ℕ) → ◌≡◌ {A = Result (Header × ℕ) R
 placed h h' j n e = let p : ◌≡◌ {A = Header × ℕ} (h, n) (h', j) = cc in sym (ap (λ x. x.1) p)
 
 not_placed : (h : Header) (j n : ℕ) (x : Refusal) → ◌≡◌ {A = Result (Header × ℕ) Refusal} (Err x) (Ok (h, j)) → j ≡ n
-not_placed h j n x e = let z : ◌≡◌ {A = ℕ} 0 1 = cc in absurd (omega arith)
+not_placed h j n x e = cc
 
 -- no model stands at the front
 none_there : {P : Type 0} (Q : ℕ → Type 0) (o : Option ℕ) (x : Refusal) → ◌≡◌ {A = Result ℕ Refusal} (Err x) (ok_or o Garbled) → MatchOption o P Q → P × (x ≡ Garbled)
 none_there Q None x e h = (h, cc)
-none_there Q (Some n) x e h = let z : ◌≡◌ {A = ℕ} 0 1 = cc in absurd (omega arith)
+none_there Q (Some n) x e h = not_ok _ e
 
 pub returns-in_err-length : goal.returns-in_err-length
 returns-in_err-length c =
