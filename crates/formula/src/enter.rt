@@ -13,7 +13,7 @@ use base::labels::Labels;
 use base::refusal::Refusal;
 
 // The most bytes that a text may have.
-pub(crate) const MOST_BYTES: usize = 1024;
+pub const MOST_BYTES: usize = 1024;
 
 // Whether a token is no name that the list lacks.
 fn is_listed(token: Token, labels: &Labels) -> bool
