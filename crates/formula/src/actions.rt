@@ -61,25 +61,25 @@ impl<'a> Cursor<'a> {
     fn tight_actions(&self) -> Option<Found<'a, ActionSet>>
         ensures { Chooses self.now Tight result }
     {
-        let (token, rest) = self.next()?;
-        let onward = self.moved_to(rest);
-        match token {
+        let first = self.next()?;
+        let onward = self.moved_to(first.rest);
+        match first.value {
             Token::Name(name) => Some(Found {
                 value: self.named(name),
-                rest,
+                rest: first.rest,
             }),
             Token::Mark(mark) => match mark {
                 Mark::True => Some(Found {
                     value: ActionSet::all(),
-                    rest,
+                    rest: first.rest,
                 }),
                 Mark::False => Some(Found {
                     value: ActionSet::none(),
-                    rest,
+                    rest: first.rest,
                 }),
                 Mark::Tau => Some(Found {
                     value: ActionSet::only(0),
-                    rest,
+                    rest: first.rest,
                 }),
                 Mark::Not => onward.other_actions(),
                 Mark::Sign(sign) => onward.grouped_actions(sign),
