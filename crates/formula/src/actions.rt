@@ -38,6 +38,7 @@ impl<'a> Cursor<'a> {
     }
 
     // The actions that an action formula stands for, as far as a level reaches.
+    // kept: this, TRUE, FALSE, NOT and parentheses are in reader.rt too; one reader over a trait gets no proof, as they lead back to it.
     #[cycle(braces)]
     fn actions(&self, level: Level) -> Option<Found<'a, ActionSet>>
         ensures { Chooses self.now (stage level) result }
@@ -46,7 +47,7 @@ impl<'a> Cursor<'a> {
             return self.tight_actions();
         };
         self.chain(
-            joint.sign(),
+            Sign::from(joint),
             &mut (),
             |rest: &[Token], _: &mut ()| -> Option<Found<ActionSet>>
                 requires { length (unread rest) ≤ length (ahead self.now) }
@@ -89,8 +90,6 @@ impl<'a> Cursor<'a> {
     }
 
     // What follows NOT.
-    // kept: NOT and parentheses stand in reader.rt too; one reader over a trait gets no proof, as parentheses lead back
-    // through the trait's method.
     #[cycle(braces)]
     fn other_actions(&self) -> Option<Found<'a, ActionSet>>
         ensures { ChoosesBy self.now (λ r ts. then (r Tight ts) (λ c rest. Some (complement c, rest))) result }

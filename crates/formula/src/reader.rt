@@ -31,6 +31,7 @@ impl Joint {
 
 impl<'a> Cursor<'a> {
     // Writes a formula, as far as a level reaches.
+    // kept: this, TRUE, FALSE, NOT and parentheses are in actions.rt too; one reader over a trait gets no proof, as they lead back to it.
     #[cycle(formulas)]
     pub(crate) fn formula(&self, level: Level, draft: &mut Draft) -> Option<Found<'a, usize>>
         ensures { Builds self.now draft.old draft.new (stage level) result }
@@ -39,7 +40,7 @@ impl<'a> Cursor<'a> {
             return self.tight(draft);
         };
         self.chain(
-            joint.sign(),
+            Sign::from(joint),
             draft,
             |rest: &[Token], draft: &mut Draft| -> Option<Found<usize>>
                 requires { length (unread rest) ≤ length (ahead self.now) }
