@@ -3,14 +3,14 @@ use Rattle.base.specs.Labels.{listed}
 use Rattle.formula.specs.declared.mark.Mark.TheVariants.{True, False, Not, Short, Path, Sign as signed}
 use Rattle.formula.specs.Building.{Laid, BuildsPart}
 use Rattle.formula.specs.Laying.{drafted, push, top, not_node}
-use Rattle.formula.specs.Levels.{node_of}
+use Rattle.formula.specs.Levels.{stage, node_of}
 use Rattle.formula.specs.Places.{ahead, Linked}
 use Rattle.formula.specs.Reading.{OrLevel, Tight, then, read, part, link, formula_rules}
-use Rattle.formula.specs.Trees.{TRUE, FALSE, NOT, short, path, all}
+use Rattle.formula.specs.Trees.{Tree, TRUE, FALSE, NOT, short, path, all}
 use Rattle.formula.proofs.Buildings as buildings
 use Rattle.formula.proofs.Findings.{level_chain, none_found}
 use Rattle.formula.proofs.Layings as layings
-use Rattle.formula.proofs.Stages.{tight-by}
+use Rattle.formula.proofs.Stages.{rank_small, tight-by}
 use Rattle.formula.proofs.cursor.+formulas.Goals as goal
 
 pub Cursor::formula-returns : goal.Cursor::formula-returns
@@ -88,7 +88,7 @@ pub Cursor::with_formula-returns : goal.Cursor::with_formula-returns
 Cursor::with_formula-returns t c = λ k h.
     let d = c.in_ok-inner.ensures in (
       (k, d.0),
-      (λ n m. ap (λ g. then g (λ u rest. Some ((k, u), rest))) (d.1 n (omega (arith, buildings.rank_small c.args.level)))),
+      (λ n m. ap (λ g. then g (λ u rest. Some ((k, u), rest))) (d.1 n (omega (arith, (rank_small {X = Tree} (stage c.args.level)).1)))),
       (d.2, h),
       d.3,
     )
