@@ -62,11 +62,6 @@ pub joined : (names : List (List ℕ)) (j : Joint) (x y : Tree) (s t u u' d d' :
 joined names joint.Or = laid-two names or_node
 joined names joint.And = laid-two names and_node
 
-pub rank_small : (l : Level) → rank (stage {X = Tree} l) ≤ 3
-rank_small (level.Chain joint.Or) = omega arith
-rank_small (level.Chain joint.And) = omega arith
-rank_small level.Tight = omega arith
-
 -- braces with nothing after them
 pub none_follows : (l : Level) (c : Acts) (ts : List Tok) (n : ℕ) → false ≡ begins ts → after_braces (read formula_rules n (stage l)) c ts ≡ Some ((c, TRUE), ts)
 none_follows l c ts n h = ap (λ b. cond b (with_formula (read formula_rules n (stage l)) c ts) (Some ((c, TRUE), ts))) (sym h)

@@ -10,7 +10,9 @@ use Rattle.formula.specs.Trees.{Acts, all, none, silent, named, complement, Tree
 use Rattle.formula.specs.Grammar as grammar
 use Rattle.formula.specs.Grammar.{Level, or_level, and_level, tight, ActionFormula, Derives, Part, opens, begins_with, begins}
 use Rattle.formula.specs.Reading.{past_sign, if_there, Got, then, Stage, OrLevel, OrMore, AndLevel, AndMore, Tight, Rules, read, rank, Reads, ended_by, action_rules, in_braces, with_formula, after_braces, part, link, second_part, formula_rules, whole_at, tree_of}
-use Rattle.formula.proofs.Stages.{or_some, and_some, or_stop, or_more_some, and_stop, and-more_some, tight-by}
+use Rattle.formula.specs.declared.built.Joint.TheVariants as joint
+use Rattle.formula.proofs.Stages as stages
+use Rattle.formula.proofs.Stages.{rank_small, tight-by}
 
 -- what is read at a level goes on as its beginning
 abbrev In : {X : Type 0} → Rules X → Level → List Tok → X → List Tok → Type 0
@@ -30,8 +32,8 @@ stage and_level = AndLevel
 stage tight = Tight
 
 ends : {X : Type 0} (R : Rules X) (l : Level) (ts : List Tok) (x : X) (rest : List Tok) → In R l ts x rest → Stops l rest → Reads R (stage l) ts (Some (x, rest))
-ends R or_level ts x rest i s = i s.0 (Some (x, rest)) (or_stop R x rest s.1)
-ends R and_level ts x rest i s = i (Some (x, rest)) (and_stop R x rest s)
+ends R or_level ts x rest i s = i s.0 (Some (x, rest)) (stages.stop R joint.Or x rest s.1)
+ends R and_level ts x rest i s = i (Some (x, rest)) (stages.stop R joint.And x rest s)
 ends R tight ts x rest i s = i
 
 -- action formulas
@@ -49,13 +51,13 @@ actions_shorter (grammar.ActionFormula.grouped d) = omega (arith, actions_shorte
 
 actions_in : {l : Level} {ts : List Tok} {c : Acts} {rest : List Tok} → ActionFormula l ts c rest → In action_rules l ts c rest
 actions_in (grammar.ActionFormula.no_or {ts} {rest} {c} d) = λ s g m.
-    or_some action_rules ts rest c g (actions_in d (Some (c, rest)) (and_stop action_rules c rest s)) (actions_shorter d) m
+    stages.some action_rules joint.Or ts rest c g (actions_in d (Some (c, rest)) (stages.stop action_rules joint.And c rest s)) (actions_shorter d) m
 actions_in (grammar.ActionFormula.with_or {ts} {us} {rest} {c} {d} x y) = λ s g m.
     actions_in x refl g
-    (or_more_some action_rules c d (mark (signed Or) ∷ us) us rest g refl (actions_in y (Some (d, rest)) (and_stop action_rules d rest s)) (actions_shorter y) m)
-actions_in (grammar.ActionFormula.no_and {ts} {rest} {c} d) = λ g m. and_some action_rules ts rest c g (actions_in d) (actions_shorter d) m
+    (stages.one_more action_rules joint.Or c d (mark (signed Or) ∷ us) us rest g refl (actions_in y (Some (d, rest)) (stages.stop action_rules joint.And d rest s)) (actions_shorter y) m)
+actions_in (grammar.ActionFormula.no_and {ts} {rest} {c} d) = λ g m. stages.some action_rules joint.And ts rest c g (actions_in d) (actions_shorter d) m
 actions_in (grammar.ActionFormula.with_and {ts} {us} {rest} {c} {d} x y) = λ g m.
-    actions_in x g (and-more_some action_rules c d (mark (signed And) ∷ us) us rest g refl (actions_in y) (actions_shorter y) m)
+    actions_in x g (stages.one_more action_rules joint.And c d (mark (signed And) ∷ us) us rest g refl (actions_in y) (actions_shorter y) m)
 actions_in (grammar.ActionFormula.true_word {rest}) = tight-by action_rules (mark True ∷ rest) (Some (all, rest)) (λ n h. refl)
 actions_in (grammar.ActionFormula.false_word {rest}) = tight-by action_rules (mark False ∷ rest) (Some (none, rest)) (λ n h. refl)
 actions_in (grammar.ActionFormula.tau_word {rest}) = tight-by action_rules (mark Tau ∷ rest) (Some (silent, rest)) (λ n h. refl)
@@ -64,14 +66,14 @@ actions_in (grammar.ActionFormula.negated {ts} {rest} {c} d) =
     let i = actions_in d in
     tight-by action_rules (mark Not ∷ ts) (Some (complement c, rest)) (λ n h. ap (λ g. then g (λ x us. Some (complement x, us))) (i n (omega arith)))
 actions_in (grammar.ActionFormula.grouped {ts} {rest} {c} d) =
-    let i = actions_in d refl (Some (c, mark (signed Close) ∷ rest)) (or_stop action_rules c (mark (signed Close) ∷ rest) refl) in
+    let i = actions_in d refl (Some (c, mark (signed Close) ∷ rest)) (stages.stop action_rules joint.Or c (mark (signed Close) ∷ rest) refl) in
     tight-by action_rules (mark (signed Open) ∷ ts) (Some (c, rest)) (λ n h. ap (λ g. then g (ended_by Close)) (i n (omega arith)))
 
 braces_in : {ts rest : List Tok} {c : Acts} → ActionFormula or_level ts c (mark (signed BraceClose) ∷ rest) → in_braces ts ≡ Some (c, rest)
 unfolding in_braces
 braces_in {ts} {rest} {c} d =
     ap (λ g. then g (ended_by BraceClose))
-    (actions_in d refl (Some (c, mark (signed BraceClose) ∷ rest)) (or_stop action_rules c (mark (signed BraceClose) ∷ rest) refl) (3 * length ts + 4) (omega arith))
+    (actions_in d refl (Some (c, mark (signed BraceClose) ∷ rest)) (stages.stop action_rules joint.Or c (mark (signed BraceClose) ∷ rest) refl) (3 * length ts + 4) (omega arith))
 
 -- how a formula begins
 formula-begins : {l : Level} {ts : List Tok} {t : Tree} {rest : List Tok} → Derives l ts t rest → begins ts ≡ true
@@ -133,34 +135,29 @@ mutual
 abbrev PartIn : Level → List Tok → Acts → Tree → List Tok → Type 0
 PartIn l ts c t rest = Stops l rest → (n : ℕ) → 3 * length ts + 3 < n → part (read formula_rules n (stage l)) ts ≡ Some ((c, t), rest)
 
-rank_small : (l : Level) → rank {X = Tree} (stage l) ≤ 3
-rank_small or_level = omega arith
-rank_small and_level = omega arith
-rank_small tight = omega arith
-
 abbrev F : Rules Tree
 F = formula_rules
 
 formula-part : (l : Level) (ts us : List Tok) (c : Acts) (t : Tree) (rest : List Tok) → In F l ts t rest → length ts ≤ length us → Stops l rest →
     (n : ℕ) → 3 * length us + 3 < n → with_formula (read F n (stage l)) c ts ≡ Some ((c, t), rest)
 formula-part l ts us c t rest i fewer s n h =
-    ap (λ g. then g (λ x vs. Some ((c, x), vs))) (ends F l ts t rest i s n (omega (arith, rank_small l)))
+    ap (λ g. then g (λ x vs. Some ((c, x), vs))) (ends F l ts t rest i s n (omega (arith, (rank_small {X = Tree} (stage l)).1)))
 
 mutual
   formula_in : {l : Level} {ts : List Tok} {t : Tree} {rest : List Tok} → Derives l ts t rest → In F l ts t rest
-  formula_in (grammar.Derives.no_or {ts} {rest} {t} d) = λ s g m. or_some F ts rest t g (formula_in d (Some (t, rest)) (and_stop F t rest s)) (formula_shorter d) m
+  formula_in (grammar.Derives.no_or {ts} {rest} {t} d) = λ s g m. stages.some F joint.Or ts rest t g (formula_in d (Some (t, rest)) (stages.stop F joint.And t rest s)) (formula_shorter d) m
   formula_in (grammar.Derives.with_or {ts} {us} {rest} {t} {u} x y) = λ s g m.
-      formula_in x refl g (or_more_some F t u (mark (signed Or) ∷ us) us rest g refl (formula_in y (Some (u, rest)) (and_stop F u rest s)) (formula_shorter y) m)
-  formula_in (grammar.Derives.no_and {ts} {rest} {t} d) = λ g m. and_some F ts rest t g (formula_in d) (formula_shorter d) m
+      formula_in x refl g (stages.one_more F joint.Or t u (mark (signed Or) ∷ us) us rest g refl (formula_in y (Some (u, rest)) (stages.stop F joint.And u rest s)) (formula_shorter y) m)
+  formula_in (grammar.Derives.no_and {ts} {rest} {t} d) = λ g m. stages.some F joint.And ts rest t g (formula_in d) (formula_shorter d) m
   formula_in (grammar.Derives.with_and {ts} {us} {rest} {t} {u} x y) = λ g m.
-      formula_in x g (and-more_some F t u (mark (signed And) ∷ us) us rest g refl (formula_in y) (formula_shorter y) m)
+      formula_in x g (stages.one_more F joint.And t u (mark (signed And) ∷ us) us rest g refl (formula_in y) (formula_shorter y) m)
   formula_in (grammar.Derives.true_word {rest}) = tight-by F (mark True ∷ rest) (Some (TRUE, rest)) (λ n h. refl)
   formula_in (grammar.Derives.false_word {rest}) = tight-by F (mark False ∷ rest) (Some (FALSE, rest)) (λ n h. refl)
   formula_in (grammar.Derives.negated {ts} {rest} {t} d) =
       let i = formula_in d in
       tight-by F (mark Not ∷ ts) (Some (NOT t, rest)) (λ n h. ap (λ g. then g (λ x us. Some (NOT x, us))) (i n (omega arith)))
   formula_in (grammar.Derives.grouped {ts} {rest} {t} d) =
-      let i = formula_in d refl (Some (t, mark (signed Close) ∷ rest)) (or_stop F t (mark (signed Close) ∷ rest) refl) in
+      let i = formula_in d refl (Some (t, mark (signed Close) ∷ rest)) (stages.stop F joint.Or t (mark (signed Close) ∷ rest) refl) in
       tight-by F (mark (signed Open) ∷ ts) (Some (t, rest)) (λ n h. ap (λ g. then g (ended_by Close)) (i n (omega arith)))
   formula_in (grammar.Derives.one_part {o} {ts} {rest} {c} {t} p) =
       let i = part_in p tt in

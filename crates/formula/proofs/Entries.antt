@@ -72,7 +72,10 @@ module _ (names : List (List ℕ)) (ts : List Tok) (t : Tree) (xs : List Shape) 
 
 -- the tokens that are a formula whose names the list has, by the nodes that were written
 module _ (names : List (List ℕ)) (ts : List Tok) (n : Nodes) (known : true ≡ all_listed names ts) where
-  module _ (after : DraftState) (root : ℕ) (whole : Whole names ts (Some (shapes n)) after (Some root)) where
+  module _ (before after : DraftState) (r : Option ℕ) (root : ℕ) (over_them : before ≡ Some (shapes n)) (found : r ≡ Some root) (laid : Whole names ts before after r) where
+    whole : Whole names ts (Some (shapes n)) after (Some root)
+    whole = subst (λ b. Whole names ts b after (Some root)) over_them (subst (Whole names ts before after) found laid)
+
     pub full : after ≡ None → verdict_on names (length (shapes n)) ts (tree_of ts) ≡ Err Full
     full e = ap (verdict_on names (length (shapes n)) ts) whole.1 ∙ over names ts whole.0 (shapes n) (few_shapes n) known (sym whole.2 ∙ e)
 

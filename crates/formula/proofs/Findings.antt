@@ -16,7 +16,8 @@ use Rattle.formula.specs.Places.{unread, ahead, moved, Past}
 use Rattle.formula.specs.Finding.{Settles, Finds}
 use Rattle.formula.specs.Levels.{sign_of, operand, stage, joined}
 use Rattle.formula.specs.Reading.{past_sign, Got, Stage, OrLevel, OrMore, AndLevel, AndMore, Tight, Rules, read, rank, Reads}
-use Rattle.formula.proofs.Stages.{or_none, or_some, or_stop, or_more-none, or_more_some, and_none, and_some, and_stop, and-more-none, and-more_some, tight-by, past_shorter}
+use Rattle.formula.proofs.Stages.{tight-by, past_shorter}
+use Rattle.formula.proofs.Stages as stages
 
 -- A chain, by how its stages read: `top` a whole one, `more x` what goes on after x, `below` an operand.
 module _ {X V S : Type 0} (R : Rules X) (sign : Sign) (top below : Stage X) (more : X → Stage X) (make : X → X → X)
@@ -65,12 +66,9 @@ pub level_chain : {X V S : Type 0} (R : Rules X) (c : Cursor) (Stands : S → S 
     ((x y : X) (s t u u' : S) (v w z : V) → Stands s t x v → Stands t u y w → Join v w u z u' → Stands s u' (joined R j x y) z) →
     (s s' : S) (r : Option (Found V)) → Chain Operand Join sign c.tokens s r s' →
     Finds (Stands s s') c (rank (stage {X = X} (level.Chain j))) (λ n. read R n (stage (level.Chain j))) r
-level_chain R c Stands Operand Join joint.Or sign e operands joins s s' r m =
-    chained R Or OrLevel AndLevel OrMore R.either (or_none R) (or_some R) (or_stop R) (or_more-none R) (or_more_some R) c Stands Operand Join operands joins s s' r
-    (subst (λ x. Chain Operand Join x c.tokens s r s') e m)
-level_chain R c Stands Operand Join joint.And sign e operands joins s s' r m =
-    chained R And AndLevel Tight AndMore R.both (and_none R) (and_some R) (and_stop R) (and-more-none R) (and-more_some R) c Stands Operand Join operands joins s s' r
-    (subst (λ x. Chain Operand Join x c.tokens s r s') e m)
+level_chain R c Stands Operand Join j sign e operands joins s s' r m =
+    chained R (sign_of j) (stage (level.Chain j)) (stage (operand j)) (stages.more j) (joined R j) (stages.none R j) (stages.some R j) (stages.stop R j) (stages.no_more R j)
+    (stages.one_more R j) c Stands Operand Join operands joins s s' r (subst (λ x. Chain Operand Join x c.tokens s r s') e m)
 
 -- a sign where these tokens are left
 pub past_there : (c k : Cursor) (rest : Bor (List Token)) (s : Sign) (r : Option (Bor (List Token))) → k ≡ moved c rest → Past (ahead k) (past_sign s (ahead k)) r →

@@ -1,13 +1,17 @@
 -- How each stage reads, from how its parts read.
-use Rattle.std.proofs.Common.{◌≡◌, ℕ, zero, suc, ◌*◌, ◌<◌, ◌≤◌, true, cond, eqb, List, [], ◌∷◌, length, Some, None, Option, sym, refl, ap, ◌∙◌, arith}
+use Rattle.std.proofs.Common.{◌≡◌, ℕ, zero, suc, ◌+◌, ◌*◌, ◌<◌, ◌≤◌, true, cond, eqb, List, [], ◌∷◌, length, Some, None, Option, sym, refl, ap, ◌∙◌, arith}
 use Rattle.std.proofs.lemmas.Option.{cond_some, none-some}
 use Rattle.std.proofs.lemmas.Bool.{eqb-true, false≢true}
 use Rattle.formula.specs.declared.mark.Mark.{Mark}
 use Rattle.formula.specs.declared.mark.Mark.TheVariants.{True, False, Tau, Not, Short, Path, Between, Sign as signed}
 use Rattle.formula.specs.declared.mark.Sign.{Sign}
 use Rattle.formula.specs.declared.mark.Sign.TheVariants.{Open, Close, BracketOpen, BracketClose, BraceOpen, BraceClose, And, Or}
+use Rattle.formula.specs.declared.built.Joint.{Joint}
+use Rattle.formula.specs.declared.built.Joint.TheVariants as joint
+use Rattle.formula.specs.declared.built.Level.TheVariants as level
+use Rattle.formula.specs.Levels.{sign_of, operand, stage, joined}
 use Rattle.formula.specs.Tokens.{Tok, mark, name}
-use Rattle.formula.specs.Reading.{code, is, past_sign, if_there, Got, then, OrLevel, OrMore, AndLevel, AndMore, Tight, Rules, read, Reads}
+use Rattle.formula.specs.Reading.{code, is, past_sign, if_there, Got, then, Stage, OrLevel, OrMore, AndLevel, AndMore, Tight, Rules, read, rank, Reads}
 
 pub no_way : {A : Type 0} (B : Type 0) {x : A} → ◌≡◌ {A = Option A} None (Some x) → B
 no_way B e = absurd (none-some _ e)
@@ -56,68 +60,71 @@ pub then_out : {X Y : Type 0} (o : Got X) (f : X → List Tok → Got Y) {y : Y 
 then_out None f e = no_way _ e
 then_out (Some p) f e = (p.0, p.1, refl, e)
 
+-- what goes on after an operand
+abbrev pub more : {X : Type 0} → Joint → X → Stage X
+more joint.Or = OrMore
+more joint.And = AndMore
+
+pub rank_small : {X : Type 0} (s : Stage X) → (1 ≤ rank s) × (rank s ≤ 3)
+rank_small OrLevel = (omega arith, omega arith)
+rank_small (OrMore x) = (omega arith, omega arith)
+rank_small AndLevel = (omega arith, omega arith)
+rank_small (AndMore x) = (omega arith, omega arith)
+rank_small Tight = (omega arith, omega arith)
+
 module _ {X : Type 0} (R : Rules X) where
-  pub or_none : (ts : List Tok) → Reads R AndLevel ts None → Reads R OrLevel ts None
+  -- a chain, and what goes on after x, one step on
+  starts : (j : Joint) (n : ℕ) (ts : List Tok) → read R (suc n) (stage (level.Chain j)) ts ≡ then (read R n (stage (operand j)) ts) (λ x rest. read R n (more j x) rest)
   unfolding read
-  or_none ts a zero h = absurd (omega arith)
-  or_none ts a (suc n) h = ap (λ g. then g (λ x rest. read R n (OrMore x) rest)) (a n (omega arith))
+  starts joint.Or n ts = refl
+  starts joint.And n ts = refl
 
-  pub or_some : (ts rest : List Tok) (x : X) (g : Got X) → Reads R AndLevel ts (Some (x, rest)) → length rest ≤ length ts → Reads R (OrMore x) rest g → Reads R OrLevel ts g
+  goes : (j : Joint) (n : ℕ) (x : X) (ts : List Tok) →
+      read R (suc n) (more j x) ts ≡ if_there (past_sign (sign_of j) ts) (λ us. then (read R n (stage (operand j)) us) (λ y rest. read R n (more j (joined R j x y)) rest)) (Some (x, ts))
   unfolding read
-  or_some ts rest x g a l m zero h = absurd (omega arith)
-  or_some ts rest x g a l m (suc n) h = ap (λ o. then o (λ y rest. read R n (OrMore y) rest)) (a n (omega arith)) ∙ m n (omega arith)
+  goes joint.Or n x ts = refl
+  goes joint.And n x ts = refl
 
-  pub and_none : (ts : List Tok) → Reads R Tight ts None → Reads R AndLevel ts None
-  unfolding read
-  and_none ts a zero h = absurd (omega arith)
-  and_none ts a (suc n) h = ap (λ g. then g (λ x rest. read R n (AndMore x) rest)) (a n (omega arith))
+  higher : (j : Joint) → rank {X = X} (stage (level.Chain j)) ≡ rank {X = X} (stage (operand j)) + 1
+  higher joint.Or = refl
+  higher joint.And = refl
 
-  pub and_some : (ts rest : List Tok) (x : X) (g : Got X) → Reads R Tight ts (Some (x, rest)) → length rest ≤ length ts → Reads R (AndMore x) rest g → Reads R AndLevel ts g
-  unfolding read
-  and_some ts rest x g a l m zero h = absurd (omega arith)
-  and_some ts rest x g a l m (suc n) h = ap (λ o. then o (λ y rest. read R n (AndMore y) rest)) (a n (omega arith)) ∙ m n (omega arith)
+  low : (j : Joint) (x : X) → rank (more j x) ≡ 1
+  low joint.Or x = refl
+  low joint.And x = refl
 
-  -- no further OR, or one
-  pub or_stop : (x : X) (ts : List Tok) → past_sign Or ts ≡ None → Reads R (OrMore x) ts (Some (x, ts))
-  unfolding read
-  or_stop x ts e zero h = absurd (omega arith)
-  or_stop x ts e (suc n) h = ap (λ o. if_there o (λ us. then (read R n AndLevel us) (λ y rest. read R n (OrMore (R.either x y)) rest)) (Some (x, ts))) e
+  pub none : (j : Joint) (ts : List Tok) → Reads R (stage (operand j)) ts None → Reads R (stage (level.Chain j)) ts None
+  none j ts a zero h = absurd (omega arith)
+  none j ts a (suc n) h = starts j n ts ∙ ap (λ g. then g (λ x rest. read R n (more j x) rest)) (a n (omega (arith, higher j)))
 
-  pub or_more-none : (x : X) (ts us : List Tok) → past_sign Or ts ≡ Some us → Reads R AndLevel us None → Reads R (OrMore x) ts None
-  unfolding read
-  or_more-none x ts us e a zero h = absurd (omega arith)
-  or_more-none x ts us e a (suc n) h =
-      ap (λ o. if_there o (λ vs. then (read R n AndLevel vs) (λ y rest. read R n (OrMore (R.either x y)) rest)) (Some (x, ts))) e
-      ∙ ap (λ o. then o (λ y rest. read R n (OrMore (R.either x y)) rest)) (a n (omega (arith, past_shorter Or ts us e)))
+  pub some : (j : Joint) (ts rest : List Tok) (x : X) (g : Got X) → Reads R (stage (operand j)) ts (Some (x, rest)) → length rest ≤ length ts → Reads R (more j x) rest g →
+      Reads R (stage (level.Chain j)) ts g
+  some j ts rest x g a l m zero h = absurd (omega arith)
+  some j ts rest x g a l m (suc n) h =
+      starts j n ts ∙ ap (λ o. then o (λ y rest. read R n (more j y) rest)) (a n (omega (arith, higher j)))
+      ∙ m n (omega (arith, higher j, low j x, (rank_small {X = X} (stage (operand j))).0))
 
-  pub or_more_some : (x y : X) (ts us rest : List Tok) (g : Got X) → past_sign Or ts ≡ Some us → Reads R AndLevel us (Some (y, rest)) → length rest ≤ length us →
-      Reads R (OrMore (R.either x y)) rest g → Reads R (OrMore x) ts g
-  unfolding read
-  or_more_some x y ts us rest g e a l m zero h = absurd (omega arith)
-  or_more_some x y ts us rest g e a l m (suc n) h =
-      ap (λ o. if_there o (λ vs. then (read R n AndLevel vs) (λ z rest. read R n (OrMore (R.either x z)) rest)) (Some (x, ts))) e
-      ∙ ap (λ o. then o (λ z rest. read R n (OrMore (R.either x z)) rest)) (a n (omega (arith, past_shorter Or ts us e))) ∙ m n (omega (arith, past_shorter Or ts us e))
+  -- no further operand, or one
+  pub stop : (j : Joint) (x : X) (ts : List Tok) → past_sign (sign_of j) ts ≡ None → Reads R (more j x) ts (Some (x, ts))
+  stop j x ts e zero h = absurd (omega arith)
+  stop j x ts e (suc n) h =
+      goes j n x ts ∙ ap (λ o. if_there o (λ us. then (read R n (stage (operand j)) us) (λ y rest. read R n (more j (joined R j x y)) rest)) (Some (x, ts))) e
 
-  -- no further AND, or one
-  pub and_stop : (x : X) (ts : List Tok) → past_sign And ts ≡ None → Reads R (AndMore x) ts (Some (x, ts))
-  unfolding read
-  and_stop x ts e zero h = absurd (omega arith)
-  and_stop x ts e (suc n) h = ap (λ o. if_there o (λ us. then (read R n Tight us) (λ y rest. read R n (AndMore (R.both x y)) rest)) (Some (x, ts))) e
+  pub no_more : (j : Joint) (x : X) (ts us : List Tok) → past_sign (sign_of j) ts ≡ Some us → Reads R (stage (operand j)) us None → Reads R (more j x) ts None
+  no_more j x ts us e a zero h = absurd (omega arith)
+  no_more j x ts us e a (suc n) h =
+      goes j n x ts ∙ ap (λ o. if_there o (λ vs. then (read R n (stage (operand j)) vs) (λ y rest. read R n (more j (joined R j x y)) rest)) (Some (x, ts))) e
+      ∙ ap (λ o. then o (λ y rest. read R n (more j (joined R j x y)) rest))
+      (a n (omega (arith, past_shorter (sign_of j) ts us e, low j x, (rank_small {X = X} (stage (operand j))).1)))
 
-  pub and-more-none : (x : X) (ts us : List Tok) → past_sign And ts ≡ Some us → Reads R Tight us None → Reads R (AndMore x) ts None
-  unfolding read
-  and-more-none x ts us e a zero h = absurd (omega arith)
-  and-more-none x ts us e a (suc n) h =
-      ap (λ o. if_there o (λ vs. then (read R n Tight vs) (λ y rest. read R n (AndMore (R.both x y)) rest)) (Some (x, ts))) e
-      ∙ ap (λ o. then o (λ y rest. read R n (AndMore (R.both x y)) rest)) (a n (omega (arith, past_shorter And ts us e)))
-
-  pub and-more_some : (x y : X) (ts us rest : List Tok) (g : Got X) → past_sign And ts ≡ Some us → Reads R Tight us (Some (y, rest)) → length rest ≤ length us →
-      Reads R (AndMore (R.both x y)) rest g → Reads R (AndMore x) ts g
-  unfolding read
-  and-more_some x y ts us rest g e a l m zero h = absurd (omega arith)
-  and-more_some x y ts us rest g e a l m (suc n) h =
-      ap (λ o. if_there o (λ vs. then (read R n Tight vs) (λ z rest. read R n (AndMore (R.both x z)) rest)) (Some (x, ts))) e
-      ∙ ap (λ o. then o (λ z rest. read R n (AndMore (R.both x z)) rest)) (a n (omega (arith, past_shorter And ts us e))) ∙ m n (omega (arith, past_shorter And ts us e))
+  pub one_more : (j : Joint) (x y : X) (ts us rest : List Tok) (g : Got X) → past_sign (sign_of j) ts ≡ Some us → Reads R (stage (operand j)) us (Some (y, rest)) →
+      length rest ≤ length us → Reads R (more j (joined R j x y)) rest g → Reads R (more j x) ts g
+  one_more j x y ts us rest g e a l m zero h = absurd (omega arith)
+  one_more j x y ts us rest g e a l m (suc n) h =
+      let less = past_shorter (sign_of j) ts us e in
+      goes j n x ts ∙ ap (λ o. if_there o (λ vs. then (read R n (stage (operand j)) vs) (λ z rest. read R n (more j (joined R j x z)) rest)) (Some (x, ts))) e
+      ∙ ap (λ o. then o (λ z rest. read R n (more j (joined R j x z)) rest)) (a n (omega (arith, less, low j x, (rank_small {X = X} (stage (operand j))).1)))
+      ∙ m n (omega (arith, less, low j x, low j (joined R j x y)))
 
   -- a tight formula, by its rule
   pub tight-by : (ts : List Tok) (g : Got X) → ((n : ℕ) → 3 * length ts < n → R.tightly (read R n) ts ≡ g) → Reads R Tight ts g

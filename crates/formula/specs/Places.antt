@@ -37,11 +37,11 @@ first [] = None
 first (name w ∷ ts) = None
 first (mark m ∷ ts) = Some m
 
-abbrev pub Marked : List Tok → Option (Mark × Bor (List Token)) → Type 0
+abbrev pub Marked : List Tok → Option (Found Mark) → Type 0
 Marked ts None = first ts ≡ None
-Marked ts (Some p) = (ts ≡ mark p.0 ∷ unread p.1) × (length ts ≡ length (unread p.1) + 1)
+Marked ts (Some y) = (ts ≡ mark y.value ∷ unread y.rest) × (length ts ≡ length (unread y.rest) + 1)
 
 -- the word between two parts, and what follows it
-abbrev pub Linked : List Tok → Option (Link × List Tok) → Option (Link × Bor (List Token)) → Type 0
+abbrev pub Linked : List Tok → Option (Link × List Tok) → Option (Found Link) → Type 0
 Linked ts o None = o ≡ None
-Linked ts o (Some p) = (o ≡ Some (p.0, unread p.1)) × (length ts ≡ length (unread p.1) + 1)
+Linked ts o (Some y) = (o ≡ Some (y.value, unread y.rest)) × (length ts ≡ length (unread y.rest) + 1)

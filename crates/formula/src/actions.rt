@@ -38,6 +38,7 @@ impl<'a> Cursor<'a> {
     }
 
     // The actions that an action formula stands for, as far as a level reaches.
+    // kept: this, TRUE, FALSE, NOT and parentheses are in reader.rt too; one reader over a trait gets no proof, as they lead back to it.
     #[cycle(braces)]
     fn actions(&self, level: Level) -> Option<Found<'a, ActionSet>>
         ensures { Chooses self.now (stage level) result }
@@ -46,7 +47,7 @@ impl<'a> Cursor<'a> {
             return self.tight_actions();
         };
         self.chain(
-            joint.sign(),
+            Sign::from(joint),
             &mut (),
             |rest: &[Token], _: &mut ()| -> Option<Found<ActionSet>>
                 requires { length (unread rest) ≤ length (ahead self.now) }
@@ -61,25 +62,25 @@ impl<'a> Cursor<'a> {
     fn tight_actions(&self) -> Option<Found<'a, ActionSet>>
         ensures { Chooses self.now Tight result }
     {
-        let (token, rest) = self.next()?;
-        let onward = self.moved_to(rest);
-        match token {
+        let first = self.next()?;
+        let onward = self.moved_to(first.rest);
+        match first.value {
             Token::Name(name) => Some(Found {
                 value: self.named(name),
-                rest,
+                rest: first.rest,
             }),
             Token::Mark(mark) => match mark {
                 Mark::True => Some(Found {
                     value: ActionSet::all(),
-                    rest,
+                    rest: first.rest,
                 }),
                 Mark::False => Some(Found {
                     value: ActionSet::none(),
-                    rest,
+                    rest: first.rest,
                 }),
                 Mark::Tau => Some(Found {
                     value: ActionSet::only(0),
-                    rest,
+                    rest: first.rest,
                 }),
                 Mark::Not => onward.other_actions(),
                 Mark::Sign(sign) => onward.grouped_actions(sign),
@@ -89,8 +90,6 @@ impl<'a> Cursor<'a> {
     }
 
     // What follows NOT.
-    // kept: NOT and parentheses stand in reader.rt too; one reader over a trait gets no proof, as parentheses lead back
-    // through the trait's method.
     #[cycle(braces)]
     fn other_actions(&self) -> Option<Found<'a, ActionSet>>
         ensures { ChoosesBy self.now (λ r ts. then (r Tight ts) (λ c rest. Some (complement c, rest))) result }

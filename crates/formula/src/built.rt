@@ -24,18 +24,22 @@ pub(crate) enum Level {
     Tight,
 }
 
-impl Joint {
-    ghost use Rattle.formula.specs.Levels.{sign_of, operand};
+// The word, as it stands in a text.
+impl From<Joint> for Sign {
+    ghost use Rattle.formula.specs.Levels.{sign_of};
 
-    // The word, as it stands in a text.
-    pub(crate) fn sign(self) -> Sign
-        ensures { result ≡ sign_of self }
-    {
-        match self {
+    ghost from_gives = { λ j s. s ≡ sign_of j };
+
+    fn from(joint: Joint) -> Sign {
+        match joint {
             Joint::Or => Sign::Or,
             Joint::And => Sign::And,
         }
     }
+}
+
+impl Joint {
+    ghost use Rattle.formula.specs.Levels.{operand};
 
     // How much is read for an operand.
     pub(crate) fn operand(self) -> Level

@@ -31,20 +31,24 @@ impl<'a> Cursor<'a> {
     }
 
     // The token that stands first, and what follows it.
-    pub(crate) fn next(&self) -> Option<(Token, &'a [Token])>
-        ensures { MatchOption result (ahead self.now ≡ []) (λ p. (ahead self.now ≡ tok p.0 ∷ unread p.1) × (length (ahead self.now) ≡ length (unread p.1) + 1)) }
+    pub(crate) fn next(&self) -> Option<Found<'a, Token>>
+        ensures { MatchOption result (ahead self.now ≡ []) (λ y. (ahead self.now ≡ tok y.value ∷ unread y.rest) × (length (ahead self.now) ≡ length (unread y.rest) + 1)) }
     {
         let (token, rest) = self.tokens.split_first()?;
-        Some((*token, rest))
+        Some(Found {
+            value: *token,
+            rest,
+        })
     }
 
     // The sign or word that stands first, and what follows it; none at a name.
-    pub(crate) fn mark(&self) -> Option<(Mark, &'a [Token])>
+    pub(crate) fn mark(&self) -> Option<Found<'a, Mark>>
         ensures { Marked (ahead self.now) result }
     {
-        match self.next()? {
-            (Token::Mark(mark), rest) => Some((mark, rest)),
-            (Token::Name(_), _) => None,
+        let Found { value: token, rest } = self.next()?;
+        match token {
+            Token::Mark(value) => Some(Found { value, rest }),
+            Token::Name(_) => None,
         }
     }
 
@@ -52,8 +56,9 @@ impl<'a> Cursor<'a> {
     pub(crate) fn after(&self, sign: Sign) -> Option<&'a [Token]>
         ensures { Past (ahead self.now) (past_sign sign (ahead self.now)) result }
     {
-        match self.mark()? {
-            (Mark::Sign(found), rest) if found == sign => Some(rest),
+        let Found { value: mark, rest } = self.mark()?;
+        match mark {
+            Mark::Sign(found) if found == sign => Some(rest),
             _ => None,
         }
     }
@@ -67,11 +72,12 @@ impl<'a> Cursor<'a> {
     }
 
     // The word U or W that stands first, and what follows it.
-    pub(crate) fn link(&self) -> Option<(Link, &'a [Token])>
+    pub(crate) fn link(&self) -> Option<Found<'a, Link>>
         ensures { Linked (ahead self.now) (link (ahead self.now)) result }
     {
-        match self.mark()? {
-            (Mark::Between(found), rest) => Some((found, rest)),
+        let Found { value: mark, rest } = self.mark()?;
+        match mark {
+            Mark::Between(value) => Some(Found { value, rest }),
             _ => None,
         }
     }
@@ -80,10 +86,10 @@ impl<'a> Cursor<'a> {
     pub(crate) fn can_begin(&self) -> bool
         ensures { result ≡ begins (ahead self.now) }
     {
-        let Some((mark, _)) = self.mark() else {
+        let Some(first) = self.mark() else {
             return false;
         };
-        match mark {
+        match first.value {
             Mark::Sign(sign) => sign == Sign::Open,
             Mark::True | Mark::False | Mark::Not | Mark::Short(_) | Mark::Path(_) => true,
             Mark::Tau | Mark::Between(_) => false,

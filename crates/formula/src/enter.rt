@@ -1,7 +1,8 @@
-ghost use Rattle.std.specs.Prelude.{◌≡◌, map};
+ghost use Rattle.std.specs.Prelude.{◌≡◌};
 ghost use Rattle.base.specs.Labels.{listed};
 ghost use Rattle.formula.specs.Entering.{is_listed, all_listed, Whole, ChecksTokens, Checks, Entered};
 ghost use Rattle.formula.specs.Laying.{drafted, shapes};
+ghost use Rattle.formula.specs.Places.{ahead};
 ghost use Rattle.formula.specs.Tokens.{tok};
 
 use crate::built::{Joint, Level};
@@ -13,7 +14,7 @@ use base::labels::Labels;
 use base::refusal::Refusal;
 
 // The most bytes that a text may have.
-pub(crate) const MOST_BYTES: usize = 1024;
+pub const MOST_BYTES: usize = 1024;
 
 // Whether a token is no name that the list lacks.
 fn is_listed(token: Token, labels: &Labels) -> bool
@@ -25,36 +26,39 @@ fn is_listed(token: Token, labels: &Labels) -> bool
     }
 }
 
-// Whether the list has every name among the tokens.
-fn all_listed(tokens: &[Token], labels: &Labels) -> bool
-    ensures { result ≡ all_listed (listed labels.now) (map tok tokens.now) }
-{
-    tokens.iter().all(|token| is_listed(*token, labels))
-}
-
-// Writes the formula that the tokens are as a whole, and says its number.
-fn whole(tokens: &[Token], labels: &Labels, draft: &mut Draft) -> Option<usize>
-    ensures { Whole (listed labels.now) (map tok tokens.now) (drafted draft.old) (drafted draft.new) result }
-{
-    let start = Cursor { tokens, labels };
-    let built = start.formula(Level::Chain(Joint::Or), draft)?;
-    if !built.rest.is_empty() {
-        return None;
+impl<'a> Cursor<'a> {
+    // Whether the list has every name among the tokens.
+    fn all_listed(&self) -> bool
+        ensures { result ≡ all_listed (listed self.now.labels.now) (ahead self.now) }
+    {
+        self.tokens
+            .iter()
+            .all(|token| is_listed(*token, self.labels))
     }
-    Some(built.value)
-}
 
-// Checks the tokens of a text over a copy of the nodes.
-fn check_tokens(tokens: &[Token], labels: &Labels, nodes: &Nodes) -> Result<Entry, Refusal>
-    ensures { ChecksTokens (listed labels.now) (map tok tokens.now) (shapes nodes.now) result }
-{
-    let mut draft = Draft::over(nodes);
-    let root = whole(tokens, labels, &mut draft).ok_or(Refusal::Grammar)?;
-    if !all_listed(tokens, labels) {
-        return Err(Refusal::Nameless);
+    // Writes the formula that the tokens are as a whole, and says its number.
+    fn whole(&self, draft: &mut Draft) -> Option<usize>
+        ensures { Whole (listed self.now.labels.now) (ahead self.now) (drafted draft.old) (drafted draft.new) result }
+    {
+        let built = self.formula(Level::Chain(Joint::Or), draft)?;
+        if !built.rest.is_empty() {
+            return None;
+        }
+        Some(built.value)
     }
-    let nodes = draft.nodes.ok_or(Refusal::Full)?;
-    Ok(Entry { nodes, root })
+
+    // Checks the tokens over a copy of the nodes.
+    fn check_tokens(&self, nodes: &Nodes) -> Result<Entry, Refusal>
+        ensures { ChecksTokens (listed self.now.labels.now) (ahead self.now) (shapes nodes.now) result }
+    {
+        let mut draft = Draft::over(nodes);
+        let root = self.whole(&mut draft).ok_or(Refusal::Grammar)?;
+        if !self.all_listed() {
+            return Err(Refusal::Nameless);
+        }
+        let nodes = draft.nodes.ok_or(Refusal::Full)?;
+        Ok(Entry { nodes, root })
+    }
 }
 
 // Checks a text, and alters nothing.
@@ -65,7 +69,11 @@ fn check(text: &[u8], labels: &Labels, nodes: &Nodes) -> Result<Entry, Refusal>
         return Err(Refusal::Grammar);
     }
     let tokens = lex(text)?;
-    check_tokens(tokens.as_slice(), labels, nodes)
+    let start = Cursor {
+        tokens: tokens.as_slice(),
+        labels,
+    };
+    start.check_tokens(nodes)
 }
 
 // Enters a text: writes its nodes past those before, and says the number of its formula.

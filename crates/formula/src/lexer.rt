@@ -103,13 +103,13 @@ fn past_spaces(text: &[u8]) -> &[u8]
 
 // The tokens of a text, one after another. Bytes that are no token are refused, and nothing comes after them.
 #[derive(Clone, Copy)]
-pub(crate) struct Lexer<'a> {
+pub struct Lexer<'a> {
     rest: &'a [u8],
 }
 
 impl<'a> Lexer<'a> {
     // Over the whole of a text.
-    pub(crate) fn over(text: &'a [u8]) -> Lexer<'a>
+    pub fn over(text: &'a [u8]) -> Lexer<'a>
         ensures { result.rest.now ≡ text.now }
     {
         Lexer { rest: text }

@@ -31,6 +31,7 @@ impl Joint {
 
 impl<'a> Cursor<'a> {
     // Writes a formula, as far as a level reaches.
+    // kept: this, TRUE, FALSE, NOT and parentheses are in actions.rt too; one reader over a trait gets no proof, as they lead back to it.
     #[cycle(formulas)]
     pub(crate) fn formula(&self, level: Level, draft: &mut Draft) -> Option<Found<'a, usize>>
         ensures { Builds self.now draft.old draft.new (stage level) result }
@@ -39,7 +40,7 @@ impl<'a> Cursor<'a> {
             return self.tight(draft);
         };
         self.chain(
-            joint.sign(),
+            Sign::from(joint),
             draft,
             |rest: &[Token], draft: &mut Draft| -> Option<Found<usize>>
                 requires { length (unread rest) ≤ length (ahead self.now) }
@@ -54,16 +55,16 @@ impl<'a> Cursor<'a> {
     fn tight(&self, draft: &mut Draft) -> Option<Found<'a, usize>>
         ensures { Builds self.now draft.old draft.new Tight result }
     {
-        let (mark, rest) = self.mark()?;
-        let onward = self.moved_to(rest);
-        match mark {
+        let first = self.mark()?;
+        let onward = self.moved_to(first.rest);
+        match first.value {
             Mark::True => Some(Found {
                 value: draft.put(Node::True),
-                rest,
+                rest: first.rest,
             }),
             Mark::False => Some(Found {
                 value: draft.put(Node::False),
-                rest,
+                rest: first.rest,
             }),
             Mark::Not => onward.negated(draft),
             Mark::Sign(sign) => onward.grouped(sign, draft),
@@ -120,12 +121,14 @@ impl<'a> Cursor<'a> {
     {
         let inside = self.after(Sign::BracketOpen)?;
         let first = self.moved_to(inside).part(Level::Chain(Joint::Or), draft)?;
-        let (link, rest) = self.moved_to(first.rest).link()?;
-        let second = self.moved_to(rest).part(Level::Chain(Joint::Or), draft)?;
+        let link = self.moved_to(first.rest).link()?;
+        let second = self
+            .moved_to(link.rest)
+            .part(Level::Chain(Joint::Or), draft)?;
         let second = self.closed(second, Sign::BracketClose)?;
         let node = Node::Path {
             quantifier,
-            link,
+            link: link.value,
             first: first.value,
             second: second.value,
         };

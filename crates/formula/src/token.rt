@@ -7,7 +7,7 @@ use base::name::Name;
 
 // What a text is made of, spaces apart.
 #[derive(Clone, Copy)]
-pub(crate) enum Token {
+pub enum Token {
     Mark(Mark),
     Name(Name),
 }

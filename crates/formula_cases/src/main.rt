@@ -10,22 +10,24 @@ use formula::nodes::Nodes;
 use std::alloc::{AllocError, Global};
 use std::{fmt, io};
 
-// What a digit to the base sixteen counts; any other byte counts nothing.
+// What a digit to the base sixteen counts, in small letters; any other byte counts nothing.
 fn hex(digit: u8) -> u8 {
-    char::from(digit).to_digit(16).unwrap_or(0) as u8
+    match digit {
+        b'0'..=b'9' => digit - b'0',
+        b'a'..=b'f' => digit - b'a' + 10,
+        _ => 0,
+    }
 }
 
-// The bytes that a line stands for.
+// The bytes that a line stands for. Whatever follows a backslash counts as the x; a number that the line cuts short is no byte.
 fn decode(heap: Global, line: &str) -> Result<Vec<u8>, AllocError> {
     let mut text = Vec::new(heap);
     let mut rest = line.as_bytes();
     loop {
         let (byte, after) = match rest {
             [] => return Ok(text),
-            [b'\\', b'x', high, low, after @ ..] => (
-                hex(*high).wrapping_mul(16) | hex(*low),
-                after,
-            ),
+            [b'\\', _, high, low, after @ ..] => (hex(*high).wrapping_mul(16) | hex(*low), after),
+            [b'\\', ..] => return Ok(text),
             [byte, after @ ..] => (*byte, after),
         };
         text.push(byte)?;
@@ -109,6 +111,7 @@ fn run(rt: &HostRuntime, text: &[u8], labels: &Labels) -> io::Result<()> {
     }
 }
 
+// Each line is a text of its own, read by the same labels.
 fn main(rt: HostRuntime) -> anyhow::Result<()> {
     let labels = Labels::of(&["a", "b", "c", "abcdefghijklmnop"])?;
     for line in rt.lines(rt.alloc()) {

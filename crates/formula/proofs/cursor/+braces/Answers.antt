@@ -16,7 +16,7 @@ pub Cursor::actions-returns : goal.Cursor::actions-returns
 Cursor::actions-returns t c =
     let names = listed c.args.self.now.labels.now in let j = c.in-Chain.joint in
     rw c.in-Chain.is
-    (level_chain action_rules c.args.self.now (λ _ _ x y. IsSet names x y) _ _ j _ c.sign.ensures (λ at s r s' o. o.3)
+    (level_chain action_rules c.args.self.now (λ _ _ x y. IsSet names x y) _ _ j _ c.from.ensures (λ at s r s' o. o.3)
     (λ x y s t u u' v w z h k i. choices.joined names j x y v w z h k (search of_calls)) _ _ _ c.chain.ensures)
 
 pub Cursor::other_actions-returns : goal.Cursor::other_actions-returns
@@ -28,41 +28,41 @@ Cursor::other_actions-returns t c =
       d.3,
     )
 
-pub Cursor::tight_actions-returns-in_err-token : goal.Cursor::tight_actions-returns-in_err-token
-Cursor::tight_actions-returns-in_err-token t c =
+pub Cursor::tight_actions-returns-in_err-first : goal.Cursor::tight_actions-returns-in_err-first
+Cursor::tight_actions-returns-in_err-first t c =
     choices.none-at c.args.self.now 1 (λ n. read action_rules n Tight) c.from_residual.result c.from_residual.ensures
-    (tight-by action_rules (ahead c.args.self.now) None (λ n h. ap (action_rules.tightly (read action_rules n)) c.in_err-token.ensures))
+    (tight-by action_rules (ahead c.args.self.now) None (λ n h. ap (action_rules.tightly (read action_rules n)) c.in_err-first.ensures))
 
 pub Cursor::tight_actions-returns-in-Name : goal.Cursor::tight_actions-returns-in-Name
 Cursor::tight_actions-returns-in-Name t c =
     let s = c.args.self.now in let w = spelled c.in-Name.name in
-    let e = c.in_ok-token.ensures.0 ∙ ap (λ x. tok x ∷ unread c.in_ok-token.rest) c.in-Name.is in
-    tight-from IsSet action_rules s _ (name w) c.in_ok-token.rest refl e (Some (record { value = c.named.result; rest = c.in_ok-token.rest }))
+    let e = c.in_ok-first.ensures.0 ∙ ap (λ x. tok x ∷ unread c.in_ok-first.first.rest) c.in-Name.is in
+    tight-from IsSet action_rules s _ (name w) c.in_ok-first.first.rest refl e (Some (record { value = c.named.result; rest = c.in_ok-first.first.rest }))
     (named w, (λ n h. refl), c.named.ensures, omega arith)
 
 pub Cursor::tight_actions-returns-in-True : goal.Cursor::tight_actions-returns-in-True
 Cursor::tight_actions-returns-in-True t c =
-    choices.by_mark c.args.self.now _ _ c.in-Mark.mark True c.in_ok-token.rest c.in_ok-token.ensures.0 c.in-Mark.is c.in-True.is refl (Some (record { value = c.all.result; rest = c.in_ok-token.rest }))
+    choices.by_mark c.args.self.now _ _ c.in-Mark.mark True c.in_ok-first.first.rest c.in_ok-first.ensures.0 c.in-Mark.is c.in-True.is refl (Some (record { value = c.all.result; rest = c.in_ok-first.first.rest }))
     (all, (λ n h. refl), c.all.ensures, omega arith)
 
 pub Cursor::tight_actions-returns-in-False : goal.Cursor::tight_actions-returns-in-False
 Cursor::tight_actions-returns-in-False t c =
-    choices.by_mark c.args.self.now _ _ c.in-Mark.mark False c.in_ok-token.rest c.in_ok-token.ensures.0 c.in-Mark.is c.in-False.is refl (Some (record { value = c.none.result; rest = c.in_ok-token.rest }))
+    choices.by_mark c.args.self.now _ _ c.in-Mark.mark False c.in_ok-first.first.rest c.in_ok-first.ensures.0 c.in-Mark.is c.in-False.is refl (Some (record { value = c.none.result; rest = c.in_ok-first.first.rest }))
     (none, (λ n h. refl), c.none.ensures, omega arith)
 
 pub Cursor::tight_actions-returns-in-Tau : goal.Cursor::tight_actions-returns-in-Tau
 Cursor::tight_actions-returns-in-Tau t c =
-    choices.by_mark c.args.self.now _ _ c.in-Mark.mark Tau c.in_ok-token.rest c.in_ok-token.ensures.0 c.in-Mark.is c.in-Tau.is refl (Some (record { value = c.only.result; rest = c.in_ok-token.rest }))
+    choices.by_mark c.args.self.now _ _ c.in-Mark.mark Tau c.in_ok-first.first.rest c.in_ok-first.ensures.0 c.in-Mark.is c.in-Tau.is refl (Some (record { value = c.only.result; rest = c.in_ok-first.first.rest }))
     (silent, (λ n h. refl), c.only.ensures, omega arith)
 
 pub Cursor::tight_actions-returns-in-Not : goal.Cursor::tight_actions-returns-in-Not
 Cursor::tight_actions-returns-in-Not t c =
-    choices.by_mark c.args.self.now _ _ c.in-Mark.mark Not c.in_ok-token.rest c.in_ok-token.ensures.0 c.in-Mark.is c.in-Not.is c.moved_to-onward.ensures c.other_actions.result c.other_actions.ensures
+    choices.by_mark c.args.self.now _ _ c.in-Mark.mark Not c.in_ok-first.first.rest c.in_ok-first.ensures.0 c.in-Mark.is c.in-Not.is c.moved_to-onward.ensures c.other_actions.result c.other_actions.ensures
 
 pub Cursor::tight_actions-returns-in-Sign : goal.Cursor::tight_actions-returns-in-Sign
 Cursor::tight_actions-returns-in-Sign t c =
-    choices.by_mark c.args.self.now _ _ c.in-Mark.mark (signed c.in-Sign.sign) c.in_ok-token.rest c.in_ok-token.ensures.0 c.in-Mark.is c.in-Sign.is c.moved_to-onward.ensures c.grouped_actions.result c.grouped_actions.ensures
+    choices.by_mark c.args.self.now _ _ c.in-Mark.mark (signed c.in-Sign.sign) c.in_ok-first.first.rest c.in_ok-first.ensures.0 c.in-Mark.is c.in-Sign.is c.moved_to-onward.ensures c.grouped_actions.result c.grouped_actions.ensures
 
 pub Cursor::tight_actions-returns-in-Short : goal.Cursor::tight_actions-returns-in-Short
 Cursor::tight_actions-returns-in-Short t c =
-    choices.by_mark c.args.self.now _ _ c.in-Mark.mark c.in-Mark.mark c.in_ok-token.rest c.in_ok-token.ensures.0 c.in-Mark.is refl refl None (λ n h. choices.no_action (read action_rules n) c.in-Mark.mark _ c.in-Short.is)
+    choices.by_mark c.args.self.now _ _ c.in-Mark.mark c.in-Mark.mark c.in_ok-first.first.rest c.in_ok-first.ensures.0 c.in-Mark.is refl refl None (λ n h. choices.no_action (read action_rules n) c.in-Mark.mark _ c.in-Short.is)

@@ -3,21 +3,21 @@ use Rattle.base.specs.Labels.{listed}
 use Rattle.formula.specs.declared.mark.Mark.TheVariants.{True, False, Not, Short, Path, Sign as signed}
 use Rattle.formula.specs.Building.{Laid, BuildsPart}
 use Rattle.formula.specs.Laying.{drafted, push, top, not_node}
-use Rattle.formula.specs.Levels.{node_of}
+use Rattle.formula.specs.Levels.{stage, node_of}
 use Rattle.formula.specs.Places.{ahead, Linked}
 use Rattle.formula.specs.Reading.{OrLevel, Tight, then, read, part, link, formula_rules}
-use Rattle.formula.specs.Trees.{TRUE, FALSE, NOT, short, path, all}
+use Rattle.formula.specs.Trees.{Tree, TRUE, FALSE, NOT, short, path, all}
 use Rattle.formula.proofs.Buildings as buildings
 use Rattle.formula.proofs.Findings.{level_chain, none_found}
 use Rattle.formula.proofs.Layings as layings
-use Rattle.formula.proofs.Stages.{tight-by}
+use Rattle.formula.proofs.Stages.{rank_small, tight-by}
 use Rattle.formula.proofs.cursor.+formulas.Goals as goal
 
 pub Cursor::formula-returns : goal.Cursor::formula-returns
 Cursor::formula-returns t c =
     let names = listed c.args.self.now.labels.now in let j = c.in-Chain.joint in
     rw c.in-Chain.is
-    (level_chain formula_rules c.args.self.now (Laid names) _ _ j _ c.sign.ensures (λ at s r s' o. rw (sym o.2, sym o.4) o.3)
+    (level_chain formula_rules c.args.self.now (Laid names) _ _ j _ c.from.ensures (λ at s r s' o. rw (sym o.2, sym o.4) o.3)
     (λ x y s t u u' v w z h k i.
     let e : (drafted i.1.now ≡ push (drafted i.0.now) (node_of c.in-Chain.joint v w)) × (z ≡ top (drafted i.1.now)) = search of_calls in
     buildings.joined names j x y s t u u' i.0.now i.1.now v w z h k i.2 i.4 e.0 e.1) _ _ _ c.chain.ensures)
@@ -49,10 +49,10 @@ Cursor::one_part-returns t c =
 
 pub Cursor::two_parts-returns : goal.Cursor::two_parts-returns
 Cursor::two_parts-returns t c =
-    let s = c.args.self.now in let q = c.args.quantifier in let l = c.in_ok-link.link in let on = c.in_ok-link.rest in
+    let s = c.args.self.now in let q = c.args.quantifier in let l = c.in_ok-link.link.value in let on = c.in_ok-link.link.rest in
     let first = c.in_ok-first.first in let second = c.in_ok-second.second in let a = c.in_ok-inside.ensures in
     let d = subst (λ x. BuildsPart x c.args.draft.now c.part.new.draft (λ r. part (r OrLevel)) (Some first)) c.moved_to.ensures c.in_ok-first.ensures in
-    let e = subst (λ x. Linked (ahead x) (link (ahead x)) (Some (l, on))) c.moved_to-2.ensures c.in_ok-link.ensures in
+    let e = subst (λ x. Linked (ahead x) (link (ahead x)) (Some c.in_ok-link.link)) c.moved_to-2.ensures c.in_ok-link.ensures in
     let f = subst (λ x. BuildsPart x c.part.new.draft c.part-2.new.draft (λ r. part (r OrLevel)) (Some second)) c.moved_to-3.ensures c.in_ok-second.ensures in
     let last = c.in_ok-second-2.second in let g = c.in_ok-second-2.ensures in
     let p = d.0 in let u = f.0 in (
@@ -88,46 +88,46 @@ pub Cursor::with_formula-returns : goal.Cursor::with_formula-returns
 Cursor::with_formula-returns t c = λ k h.
     let d = c.in_ok-inner.ensures in (
       (k, d.0),
-      (λ n m. ap (λ g. then g (λ u rest. Some ((k, u), rest))) (d.1 n (omega (arith, buildings.rank_small c.args.level)))),
+      (λ n m. ap (λ g. then g (λ u rest. Some ((k, u), rest))) (d.1 n (omega (arith, (rank_small {X = Tree} (stage c.args.level)).1)))),
       (d.2, h),
       d.3,
     )
 
-pub Cursor::tight-returns-in_err-mark : goal.Cursor::tight-returns-in_err-mark
-Cursor::tight-returns-in_err-mark t c =
+pub Cursor::tight-returns-in_err-first : goal.Cursor::tight-returns-in_err-first
+Cursor::tight-returns-in_err-first t c =
     let s = c.args.self.now in
     none_found (λ names. Laid names c.args.draft.now c.args.draft.now) s 1 (λ n. read formula_rules n Tight) c.from_residual.result c.from_residual.ensures
-    (tight-by formula_rules (ahead s) None (λ n h. buildings.no_mark (read formula_rules n) (ahead s) c.in_err-mark.ensures))
+    (tight-by formula_rules (ahead s) None (λ n h. buildings.no_mark (read formula_rules n) (ahead s) c.in_err-first.ensures))
 
 pub Cursor::tight-returns-in-True : goal.Cursor::tight-returns-in-True
 Cursor::tight-returns-in-True t c =
     let s = c.args.self.now in
-    buildings.by_mark s _ c.args.draft.now c.put.new.self _ True c.in_ok-mark.rest c.in_ok-mark.ensures.0 c.in-True.is refl (Some (record { value = c.put.result; rest = c.in_ok-mark.rest }))
+    buildings.by_mark s _ c.args.draft.now c.put.new.self _ True c.in_ok-first.first.rest c.in_ok-first.ensures.0 c.in-True.is refl (Some (record { value = c.put.result; rest = c.in_ok-first.first.rest }))
     (TRUE, (λ n h. refl), (c.put.ensures.after, c.put.ensures.number), omega arith)
 
 pub Cursor::tight-returns-in-False : goal.Cursor::tight-returns-in-False
 Cursor::tight-returns-in-False t c =
     let s = c.args.self.now in
-    buildings.by_mark s _ c.args.draft.now c.put-in-False.new.self _ False c.in_ok-mark.rest c.in_ok-mark.ensures.0 c.in-False.is refl (Some (record { value = c.put-in-False.result; rest = c.in_ok-mark.rest }))
+    buildings.by_mark s _ c.args.draft.now c.put-in-False.new.self _ False c.in_ok-first.first.rest c.in_ok-first.ensures.0 c.in-False.is refl (Some (record { value = c.put-in-False.result; rest = c.in_ok-first.first.rest }))
     (FALSE, (λ n h. refl), (c.put-in-False.ensures.after, c.put-in-False.ensures.number), omega arith)
 
 pub Cursor::tight-returns-in-Not : goal.Cursor::tight-returns-in-Not
 Cursor::tight-returns-in-Not t c =
-    buildings.by_mark c.args.self.now _ c.args.draft.now c.negated.new.draft _ Not c.in_ok-mark.rest c.in_ok-mark.ensures.0 c.in-Not.is c.moved_to-onward.ensures c.negated.result c.negated.ensures
+    buildings.by_mark c.args.self.now _ c.args.draft.now c.negated.new.draft _ Not c.in_ok-first.first.rest c.in_ok-first.ensures.0 c.in-Not.is c.moved_to-onward.ensures c.negated.result c.negated.ensures
 
 pub Cursor::tight-returns-in-Sign : goal.Cursor::tight-returns-in-Sign
 Cursor::tight-returns-in-Sign t c =
-    buildings.by_mark c.args.self.now _ c.args.draft.now c.grouped.new.draft _ (signed c.in-Sign.sign) c.in_ok-mark.rest c.in_ok-mark.ensures.0 c.in-Sign.is c.moved_to-onward.ensures c.grouped.result c.grouped.ensures
+    buildings.by_mark c.args.self.now _ c.args.draft.now c.grouped.new.draft _ (signed c.in-Sign.sign) c.in_ok-first.first.rest c.in_ok-first.ensures.0 c.in-Sign.is c.moved_to-onward.ensures c.grouped.result c.grouped.ensures
 
 pub Cursor::tight-returns-in-Short : goal.Cursor::tight-returns-in-Short
 Cursor::tight-returns-in-Short t c =
-    buildings.by_mark c.args.self.now _ c.args.draft.now c.one_part.new.draft _ (Short c.in-Short.operator) c.in_ok-mark.rest c.in_ok-mark.ensures.0 c.in-Short.is c.moved_to-onward.ensures c.one_part.result c.one_part.ensures
+    buildings.by_mark c.args.self.now _ c.args.draft.now c.one_part.new.draft _ (Short c.in-Short.operator) c.in_ok-first.first.rest c.in_ok-first.ensures.0 c.in-Short.is c.moved_to-onward.ensures c.one_part.result c.one_part.ensures
 
 pub Cursor::tight-returns-in-Path : goal.Cursor::tight-returns-in-Path
 Cursor::tight-returns-in-Path t c =
-    buildings.by_mark c.args.self.now _ c.args.draft.now c.two_parts.new.draft _ (Path c.in-Path.quantifier) c.in_ok-mark.rest c.in_ok-mark.ensures.0 c.in-Path.is c.moved_to-onward.ensures c.two_parts.result c.two_parts.ensures
+    buildings.by_mark c.args.self.now _ c.args.draft.now c.two_parts.new.draft _ (Path c.in-Path.quantifier) c.in_ok-first.first.rest c.in_ok-first.ensures.0 c.in-Path.is c.moved_to-onward.ensures c.two_parts.result c.two_parts.ensures
 
 pub Cursor::tight-returns-in-Tau : goal.Cursor::tight-returns-in-Tau
 Cursor::tight-returns-in-Tau t c =
-    buildings.by_mark c.args.self.now _ c.args.draft.now c.args.draft.now c.in_ok-mark.mark c.in_ok-mark.mark c.in_ok-mark.rest c.in_ok-mark.ensures.0 refl refl None
-    (λ n h. buildings.no_formula (read formula_rules n) c.in_ok-mark.mark _ c.in-Tau.is)
+    buildings.by_mark c.args.self.now _ c.args.draft.now c.args.draft.now c.in_ok-first.first.value c.in_ok-first.first.value c.in_ok-first.first.rest c.in_ok-first.ensures.0 refl refl None
+    (λ n h. buildings.no_formula (read formula_rules n) c.in_ok-first.first.value _ c.in-Tau.is)
