@@ -10,7 +10,7 @@ pub struct Few<T: Copy, const N: usize> {
     ghost fits: { len ≤ N },
 }
 
-// By hand, since it is not derived where a generic struct has ghost fields.
+// kept: by hand, since `Clone` is not derived for a generic struct with a ghost field.
 impl<T: Copy, const N: usize> Clone for Few<T, N> {
     ghost is_clone = { λ x y. y ≡ x };
 
