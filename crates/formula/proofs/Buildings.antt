@@ -7,7 +7,6 @@ use Rattle.formula.specs.declared.built.Found.{Found}
 use Rattle.formula.specs.declared.built.Joint.{Joint}
 use Rattle.formula.specs.declared.built.Joint.TheVariants as joint
 use Rattle.formula.specs.declared.built.Level.{Level}
-use Rattle.formula.specs.declared.built.Level.TheVariants as level
 use Rattle.formula.specs.declared.node.Part.{Part}
 use Rattle.formula.specs.declared.cursor.Cursor.{Cursor}
 use Rattle.formula.specs.declared.mark.Link.{Link}
@@ -26,7 +25,7 @@ use Rattle.formula.specs.Laying.{Shape, and_node, or_node, drafted, push, top, l
 use Rattle.formula.specs.Levels.{stage, node_of}
 use Rattle.formula.specs.Levels as levels
 use Rattle.formula.specs.Places.{unread, ahead, moved, first}
-use Rattle.formula.specs.Reading.{past_sign, if_there, Got, Reader, then, OrLevel, Tight, read, rank, ended_by, in_braces, with_formula, after_braces, part, link, second_part, two_parts, formula_at, formula, formula_rules}
+use Rattle.formula.specs.Reading.{past_sign, if_there, Got, Reader, then, OrLevel, Tight, read, ended_by, in_braces, with_formula, after_braces, part, link, second_part, two_parts, formula_at, formula, formula_rules}
 use Rattle.formula.specs.Trees.{Acts, all, Tree, TRUE, path}
 use Rattle.formula.proofs.Findings as findings
 use Rattle.formula.proofs.Layings as layings

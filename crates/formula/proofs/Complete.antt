@@ -9,7 +9,7 @@ use Rattle.formula.specs.Tokens.{Tok, mark, name}
 use Rattle.formula.specs.Trees.{Acts, all, none, silent, named, complement, Tree, TRUE, FALSE, NOT, short, path}
 use Rattle.formula.specs.Grammar as grammar
 use Rattle.formula.specs.Grammar.{Level, or_level, and_level, tight, ActionFormula, Derives, Part, opens, begins_with, begins}
-use Rattle.formula.specs.Reading.{past_sign, if_there, Got, then, Stage, OrLevel, OrMore, AndLevel, AndMore, Tight, Rules, read, rank, Reads, ended_by, action_rules, in_braces, with_formula, after_braces, part, link, second_part, formula_rules, whole_at, tree_of}
+use Rattle.formula.specs.Reading.{past_sign, if_there, Got, then, Stage, OrLevel, OrMore, AndLevel, AndMore, Tight, Rules, read, Reads, ended_by, action_rules, in_braces, with_formula, after_braces, part, link, second_part, formula_rules, whole_at, tree_of}
 use Rattle.formula.specs.declared.built.Joint.TheVariants as joint
 use Rattle.formula.proofs.Stages as stages
 use Rattle.formula.proofs.Stages.{rank_small, tight-by}

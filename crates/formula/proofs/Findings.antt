@@ -4,71 +4,59 @@ use Rattle.std.specs.Borrow.{Bor}
 use Rattle.base.specs.Labels.{listed}
 use Rattle.formula.specs.declared.built.Found.{Found}
 use Rattle.formula.specs.declared.built.Joint.{Joint}
-use Rattle.formula.specs.declared.built.Joint.TheVariants as joint
 use Rattle.formula.specs.declared.built.Level.TheVariants as level
 use Rattle.formula.specs.declared.cursor.Cursor.{Cursor}
 use Rattle.formula.specs.declared.mark.Sign.{Sign}
-use Rattle.formula.specs.declared.mark.Sign.TheVariants.{And, Or}
 use Rattle.formula.specs.declared.token.Token.{Token}
 use Rattle.formula.specs.Chaining.{More, ends, breaks, goes_on, Chain, fails, begins}
 use Rattle.formula.specs.Tokens.{Tok}
 use Rattle.formula.specs.Places.{unread, ahead, moved, Past}
 use Rattle.formula.specs.Finding.{Settles, Finds}
 use Rattle.formula.specs.Levels.{sign_of, operand, stage, joined}
-use Rattle.formula.specs.Reading.{past_sign, Got, Stage, OrLevel, OrMore, AndLevel, AndMore, Tight, Rules, read, rank, Reads}
-use Rattle.formula.proofs.Stages.{tight-by, past_shorter}
-use Rattle.formula.proofs.Stages as stages
+use Rattle.formula.specs.Reading.{past_sign, Got, Stage, Tight, Rules, read, rank, Reads}
+use Rattle.formula.proofs.Stages.{more, none, some, stop, no_more, one_more, tight-by, past_shorter}
 
--- A chain, by how its stages read: `top` a whole one, `more x` what goes on after x, `below` an operand.
-module _ {X V S : Type 0} (R : Rules X) (sign : Sign) (top below : Stage X) (more : X → Stage X) (make : X → X → X)
-    (none : (ts : List Tok) → Reads R below ts None → Reads R top ts None)
-    (some : (ts rest : List Tok) (x : X) (g : Got X) → Reads R below ts (Some (x, rest)) → length rest ≤ length ts → Reads R (more x) rest g → Reads R top ts g)
-    (stop : (x : X) (ts : List Tok) → past_sign sign ts ≡ None → Reads R (more x) ts (Some (x, ts)))
-    (no_more : (x : X) (ts us : List Tok) → past_sign sign ts ≡ Some us → Reads R below us None → Reads R (more x) ts None)
-    (one_more : (x y : X) (ts us rest : List Tok) (g : Got X) → past_sign sign ts ≡ Some us → Reads R below us (Some (y, rest)) → length rest ≤ length us →
-    Reads R (more (make x y)) rest g → Reads R (more x) ts g)
-    (c : Cursor) (Stands : S → S → X → V → Type 0) (Operand : Bor (List Token) → S → Option (Found V) → S → Type 0) (Join : V → V → S → V → S → Type 0)
-    (operand : (at : Bor (List Token)) (s : S) (r : Option (Found V)) (s' : S) → Operand at s r s' → Finds (Stands s s') (moved c at) (rank below) (λ n. read R n below) r)
-    (join : (x y : X) (s t u u' : S) (v w z : V) → Stands s t x v → Stands t u y w → Join v w u z u' → Stands s u' (make x y) z) where
+-- a chain, from its operands
+module _ {X V S : Type 0} (R : Rules X) (j : Joint) (c : Cursor) (Stands : S → S → X → V → Type 0) (Operand : Bor (List Token) → S → Option (Found V) → S → Type 0)
+    (Join : V → V → S → V → S → Type 0)
+    (operands : (at : Bor (List Token)) (s : S) (r : Option (Found V)) (s' : S) → Operand at s r s' →
+    Finds (Stands s s') (moved c at) (rank (stage {X = X} (operand j))) (λ n. read R n (stage (operand j))) r)
+    (joins : (x y : X) (s t u u' : S) (v w z : V) → Stands s t x v → Stands t u y w → Join v w u z u' → Stands s u' (joined R j x y) z) where
   abbrev At : S → S → Stage X → Bor (List Token) → Option (Found V) → Type 0
   At s s' l at r = Finds (Stands s s') (moved c at) (rank l) (λ n. read R n l) r
 
-  first : (s s' : S) (x : X) (at mid : Bor (List Token)) → Reads R below (unread at) (Some (x, unread mid)) → length (unread mid) ≤ length (unread at) →
-      (r : Option (Found V)) → At s s' (more x) mid r → At s s' top at r
-  first s s' x at mid a h None k = some _ _ x None a h k
-  first s s' x at mid a h (Some y) k = (k.0, some _ _ x _ a h k.1, k.2, omega (arith, h, k.3))
+  abbrev below : Stage X
+  below = stage (operand j)
 
-  next : (s s' : S) (x y : X) (at on mid : Bor (List Token)) → past_sign sign (unread at) ≡ Some (unread on) → Reads R below (unread on) (Some (y, unread mid)) →
-      length (unread mid) ≤ length (unread on) → (r : Option (Found V)) → At s s' (more (make x y)) mid r → At s s' (more x) at r
-  next s s' x y at on mid e a h None k = one_more x y _ _ _ None e a h k
-  next s s' x y at on mid e a h (Some z) k = (k.0, one_more x y _ _ _ _ e a h k.1, k.2, omega (arith, past_shorter sign (unread at) (unread on) e, h, k.3))
+  first : (s s' : S) (x : X) (at mid : Bor (List Token)) → Reads R below (unread at) (Some (x, unread mid)) → length (unread mid) ≤ length (unread at) →
+      (r : Option (Found V)) → At s s' (more j x) mid r → At s s' (stage (level.Chain j)) at r
+  first s s' x at mid a h None k = some R j _ _ x None a h k
+  first s s' x at mid a h (Some y) k = (k.0, some R j _ _ x _ a h k.1, k.2, omega (arith, h, k.3))
+
+  next : (s s' : S) (x y : X) (at on mid : Bor (List Token)) → past_sign (sign_of j) (unread at) ≡ Some (unread on) → Reads R below (unread on) (Some (y, unread mid)) →
+      length (unread mid) ≤ length (unread on) → (r : Option (Found V)) → At s s' (more j (joined R j x y)) mid r → At s s' (more j x) at r
+  next s s' x y at on mid e a h None k = one_more R j x y _ _ _ None e a h k
+  next s s' x y at on mid e a h (Some z) k = (k.0, one_more R j x y _ _ _ _ e a h k.1, k.2, omega (arith, past_shorter (sign_of j) (unread at) (unread on) e, h, k.3))
 
   goes : (x : X) (s₀ s : S) (left : Found V) (r : Option (Found V)) (s' : S) → Stands s₀ s x left.value →
-      More Operand Join sign left s r s' → At s₀ s' (more x) left.rest r
-  goes x s₀ s left r s' k (ends e) = (x, stop x _ e, k, omega arith)
-  goes x s₀ s left r s' k (breaks {next = on} e o) = no_more x _ _ e (operand on s None s' o)
-  goes x s₀ s left r s' k (goes_on {right = right} {t = t} {u = u} {next = on} {v = v} e o j m) =
-      let d = operand on s (Some right) t o in
+      More Operand Join (sign_of j) left s r s' → At s₀ s' (more j x) left.rest r
+  goes x s₀ s left r s' k (ends e) = (x, stop R j x _ e, k, omega arith)
+  goes x s₀ s left r s' k (breaks {next = on} e o) = no_more R j x _ _ e (operands on s None s' o)
+  goes x s₀ s left r s' k (goes_on {right = right} {t = t} {u = u} {next = on} {v = v} e o i m) =
+      let d = operands on s (Some right) t o in
       next s₀ s' x d.0 left.rest on right.rest e d.1 d.3 r
-      (goes (make x d.0) s₀ u (record { value = v; rest = right.rest }) r s' (join x d.0 s₀ s t u left.value right.value v k d.2 j) m)
+      (goes (joined R j x d.0) s₀ u (record { value = v; rest = right.rest }) r s' (joins x d.0 s₀ s t u left.value right.value v k d.2 i) m)
 
-  pub chained : (s s' : S) (r : Option (Found V)) → Chain Operand Join sign c.tokens s r s' → Finds (Stands s s') c (rank top) (λ n. read R n top) r
-  chained s s' r (fails o) = none _ (operand c.tokens s None s' o)
+  chained : (s s' : S) (r : Option (Found V)) → Chain Operand Join (sign_of j) c.tokens s r s' →
+      Finds (Stands s s') c (rank (stage {X = X} (level.Chain j))) (λ n. read R n (stage (level.Chain j))) r
+  chained s s' r (fails o) = none R j _ (operands c.tokens s None s' o)
   chained s s' r (begins {t = t} {left = left} o m) =
-      let d = operand c.tokens s (Some left) t o in
+      let d = operands c.tokens s (Some left) t o in
       first s s' d.0 c.tokens left.rest d.1 d.3 r (goes d.0 s t left r s' d.2 m)
 
--- the two chains
-pub level_chain : {X V S : Type 0} (R : Rules X) (c : Cursor) (Stands : S → S → X → V → Type 0) (Operand : Bor (List Token) → S → Option (Found V) → S → Type 0)
-    (Join : V → V → S → V → S → Type 0) (j : Joint) (sign : Sign) → sign ≡ sign_of j →
-    ((at : Bor (List Token)) (s : S) (r : Option (Found V)) (s' : S) → Operand at s r s' →
-    Finds (Stands s s') (moved c at) (rank (stage {X = X} (operand j))) (λ n. read R n (stage (operand j))) r) →
-    ((x y : X) (s t u u' : S) (v w z : V) → Stands s t x v → Stands t u y w → Join v w u z u' → Stands s u' (joined R j x y) z) →
-    (s s' : S) (r : Option (Found V)) → Chain Operand Join sign c.tokens s r s' →
-    Finds (Stands s s') c (rank (stage {X = X} (level.Chain j))) (λ n. read R n (stage (level.Chain j))) r
-level_chain R c Stands Operand Join j sign e operands joins s s' r m =
-    chained R (sign_of j) (stage (level.Chain j)) (stage (operand j)) (stages.more j) (joined R j) (stages.none R j) (stages.some R j) (stages.stop R j) (stages.no_more R j)
-    (stages.one_more R j) c Stands Operand Join operands joins s s' r (subst (λ x. Chain Operand Join x c.tokens s r s') e m)
+  pub level_chain : (sign : Sign) → sign ≡ sign_of j → (s s' : S) (r : Option (Found V)) → Chain Operand Join sign c.tokens s r s' →
+      Finds (Stands s s') c (rank (stage {X = X} (level.Chain j))) (λ n. read R n (stage (level.Chain j))) r
+  level_chain sign e s s' r m = chained s s' r (subst (λ x. Chain Operand Join x c.tokens s r s') e m)
 
 -- a sign where these tokens are left
 pub past_there : (c k : Cursor) (rest : Bor (List Token)) (s : Sign) (r : Option (Bor (List Token))) → k ≡ moved c rest → Past (ahead k) (past_sign s (ahead k)) r →

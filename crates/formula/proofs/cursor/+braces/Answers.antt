@@ -16,8 +16,8 @@ pub Cursor::actions-returns : goal.Cursor::actions-returns
 Cursor::actions-returns t c =
     let names = listed c.args.self.now.labels.now in let j = c.in-Chain.joint in
     rw c.in-Chain.is
-    (level_chain action_rules c.args.self.now (λ _ _ x y. IsSet names x y) _ _ j _ c.from.ensures (λ at s r s' o. o.3)
-    (λ x y s t u u' v w z h k i. choices.joined names j x y v w z h k (search of_calls)) _ _ _ c.chain.ensures)
+    (level_chain action_rules j c.args.self.now (λ _ _ x y. IsSet names x y) _ _ (λ at s r s' o. o.3)
+    (λ x y s t u u' v w z h k i. choices.joined names j x y v w z h k (search of_calls)) _ c.from.ensures _ _ _ c.chain.ensures)
 
 pub Cursor::other_actions-returns : goal.Cursor::other_actions-returns
 Cursor::other_actions-returns t c =
