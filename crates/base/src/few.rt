@@ -2,7 +2,8 @@ ghost use Rattle.std.specs.Prelude.{◌≡◌, ◌≤◌, ⊤, length};
 
 use std::alloc::AllocError;
 
-// At most N values, one after another. It is Copy, since the values stand in an array, of which the first `len` count.
+// At most N values, one after another: those in the first `len` places of an array.
+// kept: an array with its count, in this one place: a vector of fixed capacity is not Copy, and its clone can fail, which no call here can.
 pub struct Few<T: Copy, const N: usize> {
     items: [T; N],
     len: usize,
