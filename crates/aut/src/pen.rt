@@ -30,6 +30,7 @@ impl<'a> Pen<'a> {
     }
 
     // Writes bytes.
+    // kept: each call that writes asks for room, here and where lines are put together, since how much is about what that call writes.
     pub(crate) fn put(&mut self, bytes: &[u8])
         requires { length bytes.now ≤ length (room self.old) }
         ensures { Wrote self.old bytes.now self.new }
