@@ -51,15 +51,18 @@ fn milliseconds(time: Duration) -> String {
 
 fn reading<'a>(answer: Result<reader::Header, reader::Refusal>, names: impl Iterator<Item = &'a [u8]>, cells: Vec<Cell>) -> Reading {
     let mut outcome = Outcome::default();
-    match answer {
-        Ok(reader::Header { start, transitions, states }) => outcome = Outcome { start, transitions, states, ..outcome },
-        Err(why) => outcome.refusal = why as u8,
-    }
     let mut text = Vec::new();
-    for name in names {
-        outcome.names += 1;
-        text.extend_from_slice(name);
-        text.push(b'\n');
+    match answer {
+        Ok(reader::Header { start, transitions, states }) => {
+            outcome = Outcome { start, transitions, states, ..outcome };
+            for name in names {
+                outcome.names += 1;
+                text.extend_from_slice(name);
+                text.push(b'\n');
+            }
+        }
+        // of a refused text the library tells no more than the number
+        Err(why) => outcome.refusal = why as u8,
     }
     text.resize(64 * 17, 0);
     Reading { outcome, names: text, cells }

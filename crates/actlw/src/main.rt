@@ -4,15 +4,10 @@
 ghost use Rattle.std.specs.Prelude.{◌≡◌, IfOk, string_bytes};
 ghost use Rattle.actlw.specs.Printed.{summary_of};
 
-use aut::front::read_front;
-use aut::header::Header;
-use base::labels::Labels;
-use base::refusal::Refusal;
-use formula::enter::enter;
-use formula::nodes::Nodes;
-use model::cell::Cell;
-use model::deadlock::deadlocks;
-use model::grid::Grid;
+use aut::{Header, read_front};
+use base::{Labels, Refusal};
+use formula::{Nodes, enter};
+use model::{Cell, Grid, deadlocks};
 use std::alloc::{AllocError, Global};
 use std::io;
 use std::io::Read;
@@ -55,22 +50,20 @@ fn summary(
     )
 }
 
-// Says the number of a refusal.
+// Parses the number of a refusal.
 fn refuse(rt: &HostRuntime, why: Refusal) -> io::Result<()> {
     println!(rt; "refused {}", why.number())
 }
 
 // Enters the formulas, one a line, and says of each what was read. A refused one takes no number.
 fn read_formulas(rt: &HostRuntime, text: &[u8], labels: &Labels) -> io::Result<()> {
-    let mut nodes = Nodes::fresh();
-    let mut number = 0usize;
+    let mut nodes = Nodes::new();
     for line in text.split_inclusive(|byte| *byte == b'\n') {
-        let before = nodes.count();
+        let before = nodes.len();
         match enter(&mut nodes, line.strip_suffix(b"\n").unwrap_or(line), labels) {
-            Ok(_) => {
-                let size = nodes.count().saturating_sub(before);
+            Ok(number) => {
+                let size = nodes.len().saturating_sub(before);
                 println!(rt; "formula {number}: {size} nodes")?;
-                number = number.saturating_add(1);
             }
             Err(why) => refuse(rt, why)?,
         }
@@ -78,12 +71,10 @@ fn read_formulas(rt: &HostRuntime, text: &[u8], labels: &Labels) -> io::Result<(
     Ok(())
 }
 
-// Says what was read of the model.
+// Parses what was read of the model.
 fn report(rt: &HostRuntime, header: Header, labels: &Labels, cells: &[Cell]) -> io::Result<()> {
-    match Grid::over(cells, header.size(SLOTS), header.start) {
-        Ok(grid) => {
-            rt.println(summary(rt.alloc(), header, labels.count() - 1, deadlocks(&grid))?)
-        }
+    match Grid::new(cells, header.size(SLOTS), header.start) {
+        Ok(grid) => { rt.println(summary(rt.alloc(), header, labels.len() - 1, deadlocks(&grid))?) }
         Err(why) => refuse(rt, why),
     }
 }
@@ -91,7 +82,7 @@ fn report(rt: &HostRuntime, header: Header, labels: &Labels, cells: &[Cell]) -> 
 // Reads the model at the front of the input, and the lines after it as formulas.
 fn main(rt: HostRuntime) -> io::Result<()> {
     let input = read_input(&rt)?;
-    let mut labels = Labels::fresh();
+    let mut labels = Labels::new();
     let mut cells = [Cell::EMPTY; CELLS];
     let text = input.as_slice();
     match read_front(
@@ -104,7 +95,7 @@ fn main(rt: HostRuntime) -> io::Result<()> {
     ) {
         Ok((header, length)) => {
             report(&rt, header, &labels, &cells)?;
-            read_formulas(&rt, text.get(length..).unwrap_or(&[]), &labels)
+            read_formulas(&rt, &text[length..], &labels)
         }
         Err(why) => refuse(&rt, why),
     }

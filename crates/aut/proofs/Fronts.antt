@@ -1,17 +1,12 @@
 -- A model at the front of an input: how long it is, and that it is so in one way only.
-use Rattle.std.proofs.Common.{◌≡◌, ℕ, zero, suc, ◌+◌, ◌-◌, ◌<◌, ◌≤◌, false, eqb, ltb, List, [], ◌∷◌, ◌++◌, length, get_or, take, drop, Some, None, Ok, Err, Option, Result, sym, refl, ap, ◌∙◌, subst, arith}
+use Rattle.std.proofs.Common.{◌≡◌, ℕ, zero, suc, ◌+◌, ◌-◌, ◌<◌, ◌≤◌, eqb, List, [], ◌∷◌, ◌++◌, length, get_or, drop, Some, None, Option, sym, refl, ap, ◌∙◌, arith}
 use Rattle.std.specs.Option.{option_map}
 use Rattle.std.proofs.lemmas.List.{length-append, length-drop}
 use Rattle.std.proofs.lemmas.Option.{none-some, same_Some}
-use Rattle.std.proofs.lemmas.Bool.{both_ways, cond-true, cond-false, eq-eqb, ne_eqb}
-use Rattle.base.specs.declared.refusal.Refusal.{Refusal}
-use Rattle.base.specs.declared.refusal.Refusal.TheVariants.{Garbled}
-use Rattle.base.specs.declared.labels.Labels.{Labels}
-use Rattle.model.specs.declared.cell.Cell.{Cell}
+use Rattle.std.proofs.lemmas.Bool.{cond-true, cond-false, eq-eqb, ne_eqb}
 use Rattle.aut.specs.declared.header.Header.{Header}
 use Rattle.aut.specs.Scanning.{first_line}
-use Rattle.aut.specs.Reading.{Read}
-use Rattle.aut.specs.Front.{lines_length, FirstLine, ModelFront, header_of, FrontRead}
+use Rattle.aut.specs.Front.{lines_length, FirstLine, ModelFront}
 use Rattle.aut.proofs.Readings.{line-one_in, line_one_out}
 
 -- one line fewer is left
@@ -96,24 +91,3 @@ module _ (input : List ℕ) where
           reads = q.2;
           lines = ap (λ x. option_map (λ j. x + j) (lines_length h.transitions body)) (long q.0 q.2) ∙ e;
         }
-
--- what reading a front comes to: no model there, or one that is read as a text of its own
-module _ (input : List ℕ) (longest most w : ℕ) (before : Labels) (cells : List Cell) (short : ltb longest (length input) ≡ false) where
-  pub none_read : ((n : ℕ) → ModelFront input n → ⊥) → FrontRead input longest most w before before cells cells (Err Garbled)
-  none_read none = record {
-    too_long = λ h. absurd (both_ways _ short h);
-    no_model = λ _ _. refl;
-    model = λ _ n k. absurd (none n k);
-    place = λ n k. absurd (none n k);
-    unaltered = λ _ _. (refl, refl);
-  }
-
-  pub front_read : (n k : ℕ) (after : Labels) (cells' : List Cell) (r : Result (Header × ℕ) Refusal) → k ≡ n → ModelFront input n → ((m : ℕ) → ModelFront input m → m ≡ n) →
-      Read (take k input) most w before after cells cells' (header_of r) → ((h : Header) (j : ℕ) → r ≡ Ok (h, j) → j ≡ n) → FrontRead input longest most w before after cells cells' r
-  front_read n k after cells' r e front only read place = record {
-    too_long = λ h. absurd (both_ways _ short h);
-    no_model = λ _ none. absurd (none n front);
-    model = λ _ m f. subst (λ x. Read (take x input) most w before after cells cells' (header_of r)) (e ∙ sym (only m f)) read;
-    place = λ m f h j s. place h j s ∙ sym (only m f);
-    unaltered = λ x s. read.unaltered x (ap header_of s);
-  }

@@ -4,6 +4,8 @@ mod Rooms
 mod Slots
 mod Stages
 mod Plans
+mod Reasons
+mod Systems
 mod Outcomes
 mod Fronts
 mod Pens
@@ -12,5 +14,5 @@ mod Spelled
 mod Moves
 mod Walking
 mod Forms
+mod Same
 mod RoundTrip
-mod Copies

@@ -1,11 +1,12 @@
 -- The form and the reader's way through a text agree: the pieces put together to lines, and the lines to a text.
-use Rattle.std.proofs.Common.{◌≡◌, ℕ, zero, suc, ◌<◌, List, [], ◌∷◌, ◌++◌, length, Some, None, codes, Option, sym, refl, ap, ◌∙◌, subst}
+use Rattle.std.proofs.Common.{◌≡◌, ℕ, zero, suc, ◌<◌, true, List, [], ◌∷◌, ◌++◌, length, Some, None, codes, Option, sym, refl, ap, ◌∙◌, subst}
 use Rattle.std.specs.Option.{option_map}
 use Rattle.std.proofs.lemmas.List.{append_assoc}
 use Rattle.std.proofs.lemmas.Option.{same_Some}
+use Rattle.base.specs.Names.{is_name}
 use Rattle.aut.specs.declared.field.Field.{Field}
 use Rattle.aut.specs.declared.field.Field.TheVariants.{D, E, S, Blank, HeadOpen, Start, CountGap, Count, StatesGap, States, HeadEnd, Open, From, LabelGap, Quote, Initial, Comma, ToGap, To, LineEnd}
-use Rattle.aut.specs.declared.field.Part.TheVariants.{StartState, LineCount, StateCount, Source, Target}
+use Rattle.aut.specs.declared.field.NumberRole.TheVariants.{StartState, LineCount, StateCount, Source, Target}
 use Rattle.aut.specs.declared.header.Header.{Header}
 use Rattle.aut.specs.Form.{Transition, Numeral, Gap, LineOne, FurtherLine, Lines, none, more, Form, worth}
 use Rattle.aut.specs.Scanning.{State, no_head, no_line, begin, scan_on, first_line, next_line, with_line, lines_of, with_head, form_of}
@@ -184,6 +185,10 @@ further_out : (t : List ℕ) (l : Transition) (t' : List ℕ) → next_line t �
 further_out t l t' e =
     let q = mapped_out (λ (p : Place). (p.0.line, p.1)) (scan_on (begin Open) t) (l, t') e in
     subst (λ (p : Transition × List ℕ). (x : List ℕ) × FurtherLine x p.0 × (t ≡ x ++ p.1)) q.2 (pieces_out t q.0.0 q.0.1 q.1)
+
+-- its label is a name
+pub next_named : (t : List ℕ) (l : Transition) (t' : List ℕ) → next_line t ≡ Some (l, t') → is_name l.label ≡ true
+next_named t l t' e = (further_out t l t' e).1.label_is
 
 -- it takes bytes
 pub next_shorter : (t : List ℕ) (l : Transition) (t' : List ℕ) → next_line t ≡ Some (l, t') → length t' < length t

@@ -1,30 +1,31 @@
 -- A written text reads back as the same transitions.
-use Rattle.std.proofs.Common.{◌≡◌, ℕ, zero, suc, ◌+◌, ◌*◌, ◌/◌, ◌%◌, ◌<◌, ◌≤◌, Bool, true, false, cond, not, eqb, ltb, List, [], ◌∷◌, ◌++◌, length, get_or, take, is_some, Some, None, Ok, Err, unwrap_or, sym, refl, ap, ◌∙◌, ⊎_elim, div-add-mod', arith}
+use Rattle.std.proofs.Common.{◌≡◌, ℕ, zero, suc, ◌+◌, ◌*◌, ◌<◌, ◌≤◌, Bool, true, false, cond, not, eqb, ltb, List, [], ◌∷◌, ◌++◌, length, get_or, is_some, Some, None, Ok, Err, unwrap_or, sym, refl, ap, ◌∙◌, subst, ⊎_elim, arith}
 use Rattle.std.specs.Option.{option_map}
 use Rattle.std.specs.List.{slice_get}
 use Rattle.std.proofs.lemmas.List.{append-nil, length-map, map-append}
 use Rattle.std.proofs.lemmas.List.Elements.{filter-append}
 use Rattle.std.proofs.lemmas.List.Folds.{list_all-append}
-use Rattle.std.proofs.lemmas.Bool.{and_parts, and_from, or_from, cond-true, cond-false, cases_lt, eq-eqb, ne_eqb, lt-ltb, le-ltb, le-leb, not_from_false, not_from_true, ltb-false}
-use Rattle.std.proofs.lemmas.Nat.{div_below, mod_below}
+use Rattle.std.proofs.lemmas.Bool.{and_parts, and_from, cond-true, cond-false, cases_lt, eq-eqb, ne_eqb, lt-ltb, le-ltb, ltb-false}
 use Rattle.std.proofs.lemmas.Fmt.{length-decimal-le}
+use Rattle.base.specs.declared.refusal.Refusal.{Refusal}
 use Rattle.base.specs.declared.refusal.Refusal.TheVariants.{Short, Nameless, TooBig}
 use Rattle.base.specs.declared.labels.Labels.{Labels}
 use Rattle.base.specs.Listing.{lawful}
-use Rattle.base.specs.Labels.{listed}
-use Rattle.base.proofs.Listed.{listed-fits}
-use Rattle.meaning.specs.Lts.{Slot, Lts, named_within}
+use Rattle.meaning.specs.Lts.{Slot, Lts}
 use Rattle.model.specs.declared.cell.Cell.{Cell}
-use Rattle.model.specs.Cells.{blank, slot_of, slot_at, sound, grid_refusal}
+use Rattle.model.specs.Cells.{blank, slot_of, grid_refusal}
+use Rattle.aut.specs.declared.header.Header.{Header}
 use Rattle.aut.specs.Form.{Transition, Form}
-use Rattle.aut.specs.Reading.{leaving, met, all_within, has_room, head_fits, settled, verdict, oversize, cell_or_blank, Filled}
+use Rattle.aut.specs.Systems.{leaving}
+use Rattle.aut.specs.Reading.{met, all_within, cell_or_blank, RightSize, InRange, HasRoom, TextRefused, too_large, no_form, out_of_range, few_cells, no_room, TextRead}
 use Rattle.aut.specs.Writing.{Move, slot_moves, moves_at, moves_of, moves_below, moves, head_text, moves_text, text_of, all_have_names, write_answer}
-use Rattle.aut.specs.Back.{as_line, as_lines, header_for, ReadsBack}
+use Rattle.aut.specs.Back.{as_line, as_lines, header_for, Back, ReadsBack}
 use Rattle.aut.proofs.Apart.{not_ok}
-use Rattle.aut.proofs.Spelled.{all_are_names, known_at, action_at}
+use Rattle.aut.proofs.Spelled.{all_are_names, has_action_at, action_at}
 use Rattle.aut.proofs.Lengths.{head-long}
 use Rattle.aut.proofs.Moves.{text_below, text_long}
-use Rattle.aut.proofs.Rooms.{any_none}
+use Rattle.aut.proofs.Same.{kept, none_new}
+use Rattle.aut.proofs.Readings.{one_reading}
 use Rattle.aut.proofs.Forms.{AllFit, no_moves, move, line_one, lines_of-moves}
 
 -- what holds of each transition of a list
@@ -120,7 +121,7 @@ met-none : (names : List (List ℕ)) (ms : List Move) → all_have_names names m
 met-none names [] h = refl
 met-none names (m ∷ ms) h =
     let q = and_parts (is_some (slice_get names m.label)) (all_have_names names ms) h in
-    ap (λ x. met x (as_lines names ms)) (cond-true _ _ _ (known_at names m.label q.0)) ∙ met-none names ms q.1
+    ap (λ x. met x (as_lines names ms)) (cond-true _ _ _ (has_action_at names m.label q.0)) ∙ met-none names ms q.1
 
 -- all transitions of a state have names where all of the model have
 have_both : (names : List (List ℕ)) (a b : List Move) → all_have_names names (a ++ b) ≡ true → (all_have_names names a ≡ true) × (all_have_names names b ≡ true)
@@ -141,17 +142,6 @@ cell_back names (m ∷ ms) zero law h =
     ap (λ o. Some (unwrap_or o 0, m.to)) (action_at names m.label law q.0)
 cell_back names (m ∷ ms) (suc k) law h = cell_back names ms k law (and_parts (is_some (slice_get names m.label)) (all_have_names names ms) h).1
 
--- cells that hold transitions of the model are sound
-within-at : (M : Lts) (ms : List Move) (k : ℕ) → Each (Inside M) ms → named_within M.states (option_map (λ m. (m.label, m.to)) (slice_get ms k)) ≡ true
-within-at M [] k ends = refl
-within-at M (m ∷ ms) zero (and p ps) = and_from _ _ (lt-ltb _ _ p.1) (lt-ltb _ _ p.2)
-within-at M (m ∷ ms) (suc k) (and p ps) = within-at M ms k ps
-
-sound-from : (n m : ℕ) (cs : List Cell) → ((i : ℕ) → i < m → named_within n (slot_at cs i) ≡ true) → sound n (take m cs) ≡ true
-sound-from n zero cs h = refl
-sound-from n (suc m) [] h = refl
-sound-from n (suc m) (c ∷ cs) h = and_from _ _ (h 0 (omega arith)) (sound-from n m cs (λ i l. h (suc i) (omega arith)))
-
 -- writing that is not refused: not too many transitions, and names for all
 module _ (M : Lts) (names : List (List ℕ)) (room n : ℕ) (ok : write_answer M names room ≡ Ok n) where
   pub not_many : length (moves M) ≤ 65536
@@ -169,10 +159,10 @@ module _ (M : Lts) (names : List (List ℕ)) (room n : ℕ) (ok : write_answer M
       at true e k = e
       at false e k = cc
 
-module _ (M : Lts) (before : Labels) (room w size : ℕ) (ok : write_answer M (listed before) room ≡ Ok (length (text_of M (listed before))))
+module _ (M : Lts) (before : Labels) (law : lawful before ≡ true) (short_list : length before ≤ 64) (room w size : ℕ) (ok : write_answer M before room ≡ Ok (length (text_of M before)))
     (some : 1 ≤ w) (wide : w ≤ 64) (few : (s : ℕ) → s < M.states → length (moves_of M s) ≤ w) (enough : M.states * w ≤ size) where
   abbrev names : List (List ℕ)
-  names = listed before
+  names = before
 
   abbrev ls : List Transition
   ls = as_lines names (moves M)
@@ -193,91 +183,93 @@ module _ (M : Lts) (before : Labels) (room w size : ℕ) (ok : write_answer M (l
         first = head_text M.start (length (moves M)) M.states;
         rest = moves_text names (moves M);
         first_is = line_one M.start (length (moves M)) M.states (omega arith) (omega (arith, many)) (omega arith);
-        rest_is = lines_of-moves names (moves M) (all_are_names names before.kept) (fits M names (moves M) inside have);
+        rest_is = lines_of-moves names (moves M) (all_are_names names law) (fits M names (moves M) inside have);
         counted = length-map (moves M) (as_line names);
         reads = refl;
       }
 
-  not_large : oversize (text_of M names) w ≡ false
-  not_large =
+  size_right : RightSize 2500000 w (text_of M names)
+  size_right =
       let i = M.begins in let n = M.few_states in
-      or_from _ _ (le-ltb 2500000 (length (text_of M names))
-      (omega (
-        arith,
-        text_long M names,
-        text_below M names before.kept M.states M.few_states,
-        many,
-        head-long M.start (length (moves M)) M.states,
-        length-decimal-le 5 M.start (omega arith) (omega arith) (omega arith),
-        length-decimal-le 5 (length (moves M)) (omega arith) (omega (arith, many)) (omega (arith, many)),
-        length-decimal-le 5 M.states (omega arith) (omega arith) (omega arith),
-      )))
-      (not_from_true _ (and_from _ _ (le-leb 1 w some) (le-leb w 64 wide)))
+      record {
+        short = omega (
+          arith,
+          text_long M names,
+          text_below M names law M.states M.few_states,
+          many,
+          head-long M.start (length (moves M)) M.states,
+          length-decimal-le 5 M.start (omega arith) (omega arith) (omega arith),
+          length-decimal-le 5 (length (moves M)) (omega arith) (omega (arith, many)) (omega (arith, many)),
+          length-decimal-le 5 M.states (omega arith) (omega arith) (omega arith),
+        );
+        some_slots = some;
+        few_slots = wide;
+      }
 
-  roomy : has_room M.states w names ls ≡ true
-  roomy =
-      not_from_false _ (or_from _ _
-      (any_none M.states (λ s. ltb w (length (leaving s ls)))
-      (λ s h. le-ltb w (length (leaving s ls)) (omega (arith, ap length (leaving-is M names M.states s h), length-map (moves_of M s) (as_line names), few s h))))
-      (le-ltb 64 (length (met names ls)) (omega (arith, ap length (met-none names (moves M) have), listed-fits before))))
+  roomy : HasRoom M.states w names ls
+  roomy = record {
+    slots = λ s h. omega (arith, ap length (leaving-is M names M.states s h), length-map (moves_of M s) (as_line names), few s h);
+    labels = omega (arith, ap length (met-none names (moves M) have), short_list);
+  }
 
-  head_ok : head_fits 65536 (header_for M) ≡ true
-  head_ok =
-      let a = le-leb 1 M.states M.some_states in let b = le-leb M.states 65536 M.few_states in
-      and_from _ _ (and_from _ _ (and_from _ _ a b) b) (and_from _ _ (lt-ltb M.start M.states M.begins) (le-leb (length (moves M)) 65536 many))
+  range : InRange 65536 (header_for M) ls
+  range = record {
+    some_states = M.some_states;
+    few_states = M.few_states;
+    allowed = M.few_states;
+    begins = M.begins;
+    few_transitions = many;
+    stays_in = lines-within M names (moves M) inside;
+  }
 
-  not_refused : verdict 65536 w size names (header_for M) ls ≡ Ok (header_for M)
-  not_refused =
-      ap (settled 65536 w size (header_for M)) (cond-true _ _ _ (lines-within M names (moves M) inside) ∙ cond-true _ _ _ roomy)
-      ∙ cond-false _ _ _ (not_from_true _ head_ok) ∙ cond-false _ _ _ (le-ltb size (M.states * w) enough)
+  -- no check fails
+  not_refused : (e : Refusal) → TextRefused (text_of M names) 65536 w names size e → ⊥
+  not_refused e (too_large wrong) = wrong size_right
+  not_refused e (no_form right none) = none (header_for M) ls form
+  not_refused e (out_of_range {h} {ls} right f wrong) =
+      let p = one_reading (text_of M names) (header_for M) h _ ls form f in
+      wrong (subst (λ x. InRange 65536 x ls) p.0 (subst (InRange 65536 (header_for M)) p.1 range))
+  not_refused e (few_cells {h} {ls} right f in-range short) =
+      let p = one_reading (text_of M names) (header_for M) h _ ls form f in
+      let n : M.states * w ≡ h.states * w = ap (λ (x : Header). x.states * w) p.0 in absurd (omega (arith, enough))
+  not_refused e (no_room {h} {ls} right f in-range long wrong) =
+      let p = one_reading (text_of M names) (header_for M) h _ ls form f in
+      wrong (subst (λ (x : Header). HasRoom x.states w names ls) p.0 (subst (HasRoom M.states w names) p.1 roomy))
+
+-- a text that is read
+module _ (M : Lts) (before after : Labels) (law : lawful before ≡ true) (short_list : length before ≤ 64) (room w : ℕ) (cells cells' : List Cell) (ok : write_answer M before room ≡ Ok (length (text_of M before)))
+    (some : 1 ≤ w) (wide : w ≤ 64) (few : (s : ℕ) → s < M.states → length (moves_of M s) ≤ w) (enough : M.states * w ≤ length cells)
+    (h : Header) (read : TextRead (text_of M before) 65536 w before after cells cells' h) where
+  same : (header_for M ≡ h) × (as_lines before (moves M) ≡ read.lines)
+  same = one_reading (text_of M before) (header_for M) h _ read.lines (form M before law short_list room w (length cells) ok some wide few enough) read.form
+
+  states : M.states ≡ h.states
+  states = ap (λ (x : Header). x.states) same.0
+
+  all : all_have_names before (moves M) ≡ true
+  all = have M before law short_list room w (length cells) ok some wide few enough
+
+  labels : after ≡ before
+  labels = read.named ∙ ap (met before) (sym same.1) ∙ met-none before (moves M) all
+
+  slots : (s k : ℕ) → s < M.states → k < w → slot_of (get_or cells' (s * w + k) blank) ≡ option_map (λ m. (m.label, m.to)) (slice_get (moves_of M s) k)
+  slots s k l j =
+      ap slot_of (read.filled.slots s k (omega (arith, states)) j)
+      ∙ ap (λ n. slot_of (cell_or_blank n (slice_get (leaving s read.lines) k))) labels
+      ∙ ap (λ x. slot_of (cell_or_blank before (slice_get (leaving s x) k))) (sym same.1)
+      ∙ ap (λ x. slot_of (cell_or_blank before (slice_get x k))) (leaving-is M before M.states s l)
+      ∙ cell_back before (moves_of M s) k law (have_of M before M.states s l all)
+
+  pub back : Back M w before after cells' (Ok h)
+  back = record {
+    answer = ap Ok (sym same.0);
+    labels = labels;
+    slots = slots;
+    grid = ap (λ (x : Header). grid_refusal cells' x.states w x.start) same.0 ∙ read.grid;
+    transitions = λ G over s a t. (kept M w cells' few slots G over s a t, none_new M w cells' few slots G over s a t);
+  }
 
 pub reads-back : ReadsBack
-reads-back M before after room w cells cells' r ok some wide few enough read = record {
-  answer = answer;
-  labels = labels;
-  slots = slots;
-  grid = grid;
-}
-  where
-    xs : List (List ℕ)
-    xs = listed before
-
-    the_form : Form (text_of M (listed before)) (header_for M) (as_lines (listed before) (moves M))
-    the_form = form M before room w (length cells) ok some wide few enough
-
-    answer : r ≡ Ok (header_for M)
-    answer = read.formed (not_large M before room w (length cells) ok some wide few enough) (header_for M) (as_lines (listed before) (moves M)) the_form
-        ∙ not_refused M before room w (length cells) ok some wide few enough
-
-    all : all_have_names (listed before) (moves M) ≡ true
-    all = have M before room w (length cells) ok some wide few enough
-
-    labels : listed after ≡ listed before
-    labels = read.named (header_for M) (as_lines (listed before) (moves M)) the_form answer ∙ met-none (listed before) (moves M) all
-
-    filled : Filled M.states w (listed after) (as_lines (listed before) (moves M)) cells cells'
-    filled = read.filled (header_for M) (as_lines (listed before) (moves M)) the_form answer
-
-    slots : (s k : ℕ) → s < M.states → k < w → slot_of (get_or cells' (s * w + k) blank) ≡ option_map (λ m. (m.label, m.to)) (slice_get (moves_of M s) k)
-    slots s k h j =
-        ap slot_of (filled.slots s k h j)
-        ∙ ap (λ n. slot_of (cell_or_blank n (slice_get (leaving s (as_lines (listed before) (moves M))) k))) labels
-        ∙ ap (λ x. slot_of (cell_or_blank (listed before) (slice_get x k))) (leaving-is M (listed before) M.states s h)
-        ∙ cell_back (listed before) (moves_of M s) k before.kept (have_of M (listed before) M.states s h all)
-
-    -- cell i is slot i % w of state i / w
-    cell_within : (i : ℕ) → i < M.states * w → named_within M.states (slot_at cells' i) ≡ true
-    cell_within i h =
-        let s : i / w < M.states = div_below i w M.states some h in
-        let k : i % w < w = mod_below i w some in
-        let e : i / w * w + i % w ≡ i = div-add-mod' i w in
-        ap (λ j. named_within M.states (slot_at cells' j)) (sym e)
-        ∙ ap (named_within M.states) (slots (i / w) (i % w) s k)
-        ∙ within-at M (moves_of M (i / w)) (i % w) (inside-at M (i / w) M.slots s)
-
-    grid : grid_refusal cells' M.states w M.start ≡ None
-    grid =
-        cond-false _ _ _ (not_from_true _ (and_from _ _ (and_from _ _ (le-leb 1 M.states M.some_states) (le-leb M.states 65536 M.few_states))
-        (and_from _ _ (and_from _ _ (le-leb 1 w some) (le-leb w 64 wide)) (lt-ltb M.start M.states M.begins))))
-        ∙ cond-false _ _ _ (le-ltb (length cells') (M.states * w) (omega (arith, filled.long, enough)))
-        ∙ cond-false _ _ _ (not_from_true _ (sound-from M.states (M.states * w) cells' cell_within))
+reads-back M before after room w cells cells' (Ok h) law short_list ok some wide few enough read = back M before after law short_list room w cells cells' ok some wide few enough h read
+reads-back M before after room w cells cells' (Err e) law short_list ok some wide few enough read =
+    absurd (not_refused M before law short_list room w (length cells) ok some wide few enough e read.0)

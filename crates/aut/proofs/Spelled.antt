@@ -1,15 +1,14 @@
 -- The names of a lawful label list: none is longer than 16 bytes, and each is found at its own place.
-use Rattle.std.proofs.Common.{◌≡◌, ℕ, zero, suc, ◌+◌, ◌≤◌, true, false, not, ◌&&◌, leb, List, [], ◌∷◌, length, is_some, Some, unwrap_or, sym, refl, ap, ◌∙◌, add-zero, zero-add, arith}
+use Rattle.std.proofs.Common.{◌≡◌, ℕ, zero, suc, ◌+◌, ◌≤◌, true, false, not, ◌&&◌, leb, List, [], ◌∷◌, length, is_some, Some, None, Option, sym, refl, ap, ◌∙◌, add-zero, zero-add, arith}
 use Rattle.std.specs.List.{slice_get}
 use Rattle.std.specs.Str.{bytes_eq}
 use Rattle.std.proofs.lemmas.Bool.{and_parts, or_left, or_right, or_parts, both_ways, not-true, leb-true, cond-true, cond-false}
-use Rattle.std.proofs.lemmas.Slice.Eq.{bytes_eq-Decides}
-use Rattle.base.proofs.Listed.{same-turned}
+use Rattle.base.proofs.Listed.{same_itself, same-turned, unknown}
 use Rattle.base.specs.Names.{is_name, begins_name, name_bytes}
 use Rattle.base.specs.Listing.{place, known, action_of, all_names, distinct, tau_first, lawful}
 use Rattle.aut.specs.Writing.{name_at}
 
-short-name : (x : List ℕ) → is_name x ≡ true → length x ≤ 16
+pub short-name : (x : List ℕ) → is_name x ≡ true → length x ≤ 16
 short-name x h = leb-true (length x) 16 (and_parts (leb (length x) 16) (begins_name x && name_bytes x) h).0
 
 short-names : (xs : List (List ℕ)) (a : ℕ) → all_names xs ≡ true → length (name_at xs a) ≤ 16
@@ -23,22 +22,23 @@ all_are_names xs h = (and_parts (all_names xs) (distinct xs) (and_parts (tau_fir
 pub name-short : (xs : List (List ℕ)) (a : ℕ) → lawful xs ≡ true → length (name_at xs a) ≤ 16
 name-short xs a h = short-names xs a (all_are_names xs h)
 
-pub named_short : (xs : List (List ℕ)) (a : ℕ) (x : List ℕ) → lawful xs ≡ true → Some x ≡ slice_get xs a → length x ≤ 16
-named_short xs a x law e = omega (arith, ap (λ o. length (unwrap_or o [])) e, name-short xs a law)
-
--- a name of the list is a name, is known, and is found at its own place
+-- a name of the list is a name, is known, has an action, and is found at its own place
 pub is_name-at : (xs : List (List ℕ)) (a : ℕ) → all_names xs ≡ true → is_some (slice_get xs a) ≡ true → is_name (name_at xs a) ≡ true
 is_name-at [] a h k = absurd (both_ways false refl k)
 is_name-at (x ∷ xs) zero h k = (and_parts (is_name x) (all_names xs) h).0
 is_name-at (x ∷ xs) (suc a) h k = is_name-at xs a (and_parts (is_name x) (all_names xs) h).1 k
 
-pub same_itself : (x : List ℕ) → bytes_eq x x ≡ true
-same_itself x = (bytes_eq-Decides x x).1 refl
-
-pub known_at : (xs : List (List ℕ)) (a : ℕ) → is_some (slice_get xs a) ≡ true → known (name_at xs a) xs ≡ true
+known_at : (xs : List (List ℕ)) (a : ℕ) → is_some (slice_get xs a) ≡ true → known (name_at xs a) xs ≡ true
 known_at [] a k = absurd (both_ways false refl k)
 known_at (x ∷ xs) zero k = or_left _ _ (same_itself x)
 known_at (x ∷ xs) (suc a) k = or_right _ _ (known_at xs a k)
+
+pub has_action_at : (xs : List (List ℕ)) (a : ℕ) → is_some (slice_get xs a) ≡ true → is_some (action_of (name_at xs a) xs) ≡ true
+has_action_at xs a k = at (action_of (name_at xs a) xs) refl
+  where
+    at : (o : Option ℕ) → action_of (name_at xs a) xs ≡ o → is_some o ≡ true
+    at (Some b) e = refl
+    at None e = absurd (both_ways _ (unknown 0 (name_at xs a) xs e) (known_at xs a k))
 
 -- a name that is not known is none of the list's
 apart : (y : List ℕ) (xs : List (List ℕ)) (a : ℕ) → known y xs ≡ false → is_some (slice_get xs a) ≡ true → bytes_eq y (name_at xs a) ≡ false

@@ -8,12 +8,12 @@ use Rattle.std.proofs.lemmas.Bool.Decides.{nat_tests}
 use Rattle.base.specs.Names.{letter, digit, name_byte, name_bytes, is_name}
 use Rattle.aut.specs.declared.field.Field.{Field}
 use Rattle.aut.specs.declared.field.Field.TheVariants.{Initial, Label, Comma}
-use Rattle.aut.specs.declared.field.Part.{Part}
-use Rattle.aut.specs.declared.field.Turn.{Turn}
-use Rattle.aut.specs.declared.field.Turn.TheVariants.{Next, Digit, Letter, Store}
+use Rattle.aut.specs.declared.field.NumberRole.{NumberRole}
+use Rattle.aut.specs.declared.field.Effect.{Effect}
+use Rattle.aut.specs.declared.field.Effect.TheVariants.{Next, Digit, Letter, Store}
 use Rattle.aut.specs.declared.header.Header.{Header}
 use Rattle.aut.specs.Form.{Transition, Numeral, Gap, nothing, space, all_digits, worth}
-use Rattle.aut.specs.Scanning.{State, only, numeral, no_head, turn_of, turned, next, goes, with_digit, head_with, line_with, at_line, go_on, scan_on}
+use Rattle.aut.specs.Scanning.{State, only, numeral, no_head, effect_of, effected, next, goes, with_digit, head_with, line_with, at_line, go_on, scan_on}
 
 abbrev pub Place : Type 0
 Place = State × List ℕ
@@ -50,8 +50,8 @@ shorter s s' (b ∷ t) t' e = by-next (next s b) (λ z. shorter z s' t t') e
         a
 
 -- what a turn comes to, if there is one
-abbrev pub turned_by : ℕ → State → Option Turn → Option State
-turned_by b s = option_and_then (turned b s)
+abbrev pub turned_by : ℕ → State → Option Effect → Option State
+turned_by b s = option_and_then (effected b s)
 
 -- one byte that leads on
 steps : (s s' : State) (b : ℕ) (t : List ℕ) {r : Place} → next s b ≡ Some s' → at_line s'.field ≡ false → Reads s' t r → Reads s (b ∷ t) r
@@ -76,7 +76,7 @@ pub in_parts : {Piece : List ℕ → Type 0} {stop : List ℕ} {leads : List ℕ
 in_parts G k f = f k.piece k.rest k.is k.splits k.goes_on
 
 -- one byte, and no other
-module _ (s : State) (f : Field) (c : ℕ) (law : (b : ℕ) → turn_of s.field b ≡ only c b (Next f)) where
+module _ (s : State) (f : Field) (c : ℕ) (law : (b : ℕ) → effect_of s.field b ≡ only c b (Next f)) where
   pub byte_out : (G : Type 0) (t : List ℕ) {r : Place} → Reads s t r → ((t' : List ℕ) → t ≡ c ∷ t' → Arrives (Some (goes f s)) t' r → G) → G
   byte_out G [] e k = no_way _ e
   byte_out G (b ∷ t) {r} e k =
@@ -86,8 +86,8 @@ module _ (s : State) (f : Field) (c : ℕ) (law : (b : ℕ) → turn_of s.field 
       (subst (λ x. Arrives (turned_by b s x) t r) (law b) e)
 
 -- a gap: one space is passed over, and what comes after it is read as if it were not there
-module _ (g f : Field) (s : State) (law : (b : ℕ) → turn_of g b ≡ cond (eqb b 32) (Some (Next f)) (turn_of f b)) (shut : turn_of f 32 ≡ None) (more : at_line f ≡ false) where
-  same_turn : (x : Option Turn) (b : ℕ) → turned_by b (goes f s) x ≡ turned_by b (goes g s) x
+module _ (g f : Field) (s : State) (law : (b : ℕ) → effect_of g b ≡ cond (eqb b 32) (Some (Next f)) (effect_of f b)) (shut : effect_of f 32 ≡ None) (more : at_line f ≡ false) where
+  same_turn : (x : Option Effect) (b : ℕ) → turned_by b (goes f s) x ≡ turned_by b (goes g s) x
   same_turn None b = refl
   same_turn (Some (Next h)) b = refl
   same_turn (Some (Digit h)) b = refl
@@ -99,16 +99,16 @@ module _ (g f : Field) (s : State) (law : (b : ℕ) → turn_of g b ≡ cond (eq
   gap_in _ [] nothing e = no_way _ e
   gap_in _ (b ∷ t) {r} nothing e =
       subst (λ x. Arrives (turned_by b (goes g s) x) t r) (sym (law b))
-      (cond_both (eqb b 32) (Some (Next f)) (turn_of f b) (λ x. Arrives (turned_by b (goes g s) x) t r)
-      (λ h. no_way _ (subst (λ x. Arrives (turned_by b (goes f s) x) t r) (ap (turn_of f) (eqb-true b 32 h) ∙ shut) e))
-      (λ _. subst (λ x. Arrives x t r) (same_turn (turn_of f b) b) e))
+      (cond_both (eqb b 32) (Some (Next f)) (effect_of f b) (λ x. Arrives (turned_by b (goes g s) x) t r)
+      (λ h. no_way _ (subst (λ x. Arrives (turned_by b (goes f s) x) t r) (ap (effect_of f) (eqb-true b 32 h) ∙ shut) e))
+      (λ _. subst (λ x. Arrives x t r) (same_turn (effect_of f b) b) e))
 
   gap_out : (t : List ℕ) {r : Place} → Reads (goes g s) t r → Split Gap [] (λ _. goes f s) t r
   gap_out [] e = no_way _ e
   gap_out (b ∷ t) {r} e =
-      cond_both (eqb b 32) (Some (Next f)) (turn_of f b) (λ x. Arrives (turned_by b (goes g s) x) t r → Split Gap [] (λ _. goes f s) (b ∷ t) r)
+      cond_both (eqb b 32) (Some (Next f)) (effect_of f b) (λ x. Arrives (turned_by b (goes g s) x) t r → Split Gap [] (λ _. goes f s) (b ∷ t) r)
       (λ h a. record { piece = 32 ∷ []; rest = t; is = space; splits = ap (λ x. x ∷ t) (eqb-true b 32 h); goes_on = onward (goes f s) t more a })
-      (λ _ a. record { piece = []; rest = b ∷ t; is = nothing; splits = refl; goes_on = subst (λ x. Arrives x t r) (sym (same_turn (turn_of f b) b)) a })
+      (λ _ a. record { piece = []; rest = b ∷ t; is = nothing; splits = refl; goes_on = subst (λ x. Arrives x t r) (sym (same_turn (effect_of f b) b)) a })
       (subst (λ x. Arrives (turned_by b (goes g s) x) t r) (law b) e)
 
   pub gap : Stage (goes g s) Gap [] (λ _. goes f s)
@@ -207,12 +207,12 @@ module _ (v d b : ℕ) (x : List ℕ) where
 abbrev pub counting : Field → Header → Transition → ℕ → ℕ → State
 counting f h l v d = record { field = f; number = held v d; head = h; line = l }
 
-abbrev pub counted : Part → Field → Header → Transition → ℕ → State
+abbrev pub counted : NumberRole → Field → Header → Transition → ℕ → State
 counted p f h l n = record { field = f; number = None; head = head_with p n h; line = line_with p n l }
 
 -- a numeral and the byte that ends it
-module _ (f g : Field) (c : ℕ) (p : Part) (h : Header) (l : Transition)
-    (law : (b : ℕ) → turn_of f b ≡ numeral f c p g b) (stop : digit c ≡ false) (on-f : at_line f ≡ false) (on-g : at_line g ≡ false) where
+module _ (f g : Field) (c : ℕ) (p : NumberRole) (h : Header) (l : Transition)
+    (law : (b : ℕ) → effect_of f b ≡ numeral f c p g b) (stop : digit c ≡ false) (on-f : at_line f ≡ false) (on-g : at_line g ≡ false) where
   digit-step : (v d b : ℕ) → Sized v d → turned_by b (counting f h l v d) (Some (Digit f)) ≡ cond (takes_digit v d) (Some (counting f h l (v * 10 + (b - 48)) (d + 1))) None
   digit-step v d b k = ap (option_map G) (told (b - 48) k) ∙ cases (takes_digit v d)
     where

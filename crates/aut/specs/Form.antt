@@ -41,7 +41,8 @@ pub record LineOne (text : List ℕ) (h : Header) : Type 0 where
   pub states_is : Numeral states h.states
   pub gap_is : Gap gap
   pub gap_is' : Gap gap'
-  pub reads : text ≡ codes "des (" ++ (start ++ (codes "," ++ (gap ++ (transitions ++ (codes "," ++ (gap' ++ (states ++ codes ")\n")))))))
+  pub reads : text ≡ codes "des (" ++ (start
+      ++ (codes "," ++ (gap ++ (transitions ++ (codes "," ++ (gap' ++ (states ++ codes ")\n")))))))
 
 -- A further line: (s,"label",t)
 pub record FurtherLine (text : List ℕ) (l : Transition) : Type 0 where
@@ -54,12 +55,15 @@ pub record FurtherLine (text : List ℕ) (l : Transition) : Type 0 where
   pub to_is : Numeral to l.to
   pub gap_is : Gap gap
   pub gap_is' : Gap gap'
-  pub reads : text ≡ codes "(" ++ (from ++ (codes "," ++ (gap ++ (codes "\"" ++ (l.label ++ (codes "\"," ++ (gap' ++ (to ++ codes ")\n"))))))))
+  pub reads : text ≡ codes "(" ++ (from
+      ++ (codes "," ++ (gap ++ (codes "\""
+      ++ (l.label ++ (codes "\"," ++ (gap' ++ (to ++ codes ")\n"))))))))
 
 -- Further lines, one a transition, and nothing after the last.
 pub data Lines : List ℕ → List Transition → Type 0 where
   none : Lines [] []
-  more : {x t : List ℕ} {l : Transition} {ls : List Transition} → FurtherLine x l → Lines t ls → Lines (x ++ t) (l ∷ ls)
+  more : {x t : List ℕ} {l : Transition} {ls : List Transition} → FurtherLine x l → Lines t ls →
+      Lines (x ++ t) (l ∷ ls)
 
 -- A text of the form: line one, then as many lines as it says.
 pub record Form (text : List ℕ) (h : Header) (ls : List Transition) : Type 0 where

@@ -1,5 +1,5 @@
 -- A model at the front of a longer input: line one, and as many lines more as it says.
-use Rattle.std.specs.Prelude.{◌≡◌, ℕ, zero, suc, ◌+◌, ◌-◌, ◌<◌, true, false, cond, List, [], ◌∷◌, ◌++◌, length, take, Some, None, Ok, Err, Option, Result, ◌==◌, nat_lt}
+use Rattle.std.specs.Prelude.{◌≡◌, ℕ, zero, suc, ◌+◌, ◌-◌, ◌<◌, ◌≤◌, List, [], ◌∷◌, ◌++◌, length, take, Some, None, Ok, Err, Option, Result, ◌==◌, if◌then◌else◌}
 use Rattle.std.specs.Option.{option_map}
 use Rattle.base.specs.declared.refusal.Refusal.{Refusal}
 use Rattle.base.specs.declared.refusal.Refusal.TheVariants.{Garbled, Range}
@@ -7,20 +7,22 @@ use Rattle.base.specs.declared.labels.Labels.{Labels}
 use Rattle.model.specs.declared.cell.Cell.{Cell}
 use Rattle.aut.specs.declared.header.Header.{Header}
 use Rattle.aut.specs.Form.{LineOne}
-use Rattle.aut.specs.Reading.{Read}
+use Rattle.aut.specs.Reading.{RightSize, TextRefused, TextRead, Unaltered}
 
 -- how long the first k lines are, each with the byte 10 that ends it; nothing where there are fewer
 abbrev pub lines_length : ℕ → List ℕ → Option ℕ
 lines_length zero t = Some 0
 lines_length (suc k) [] = None
-lines_length (suc k) (b ∷ t) = option_map (λ n. n + 1) (cond (b == 10) (lines_length k t) (lines_length (suc k) t))
+lines_length (suc k) (b ∷ t) =
+    option_map (λ n. n + 1) (if b == 10 then lines_length k t else lines_length (suc k) t)
 
 -- the rest of a text is what follows its first line
 pub record FirstLine (text rest : List ℕ) : Type 0 where
   pub shorter : length rest < length text
-  pub lines : (k : ℕ) → lines_length (suc k) text ≡ option_map (λ n. n + (length text - length rest)) (lines_length k rest)
+  pub lines : (k : ℕ) → lines_length (suc k) text ≡
+      option_map (λ n. n + (length text - length rest)) (lines_length k rest)
 
--- The first n bytes of the input are a line one and the lines that it announces, whatever these hold.
+-- The first n bytes of an input are a line one and the lines that it announces, whatever they hold.
 pub record ModelFront (input : List ℕ) (n : ℕ) : Type 0 where
   pub header : Header
   pub first : List ℕ
@@ -29,15 +31,32 @@ pub record ModelFront (input : List ℕ) (n : ℕ) : Type 0 where
   pub reads : input ≡ first ++ rest
   pub lines : option_map (λ k. length first + k) (lines_length header.transitions rest) ≡ Some n
 
-abbrev pub header_of : Result (Header × ℕ) Refusal → Result Header Refusal
-header_of (Ok p) = Ok p.0
-header_of (Err e) = Err e
+-- The model at the front of an input is its first n bytes, and no other number of them.
+pub record FrontEnds (input : List ℕ) (n : ℕ) : Type 0 where
+  pub front : ModelFront input n
+  pub only : (m : ℕ) → ModelFront input m → m ≡ n
+  pub inside : n ≤ length input
 
--- What reading the front of an input does: 3 for an input that is too long, 2 where no model stands at its front; else the front is
--- read as a text of its own, and where it is read its length is answered too.
-pub record FrontRead (input : List ℕ) (longest most w : ℕ) (before after : Labels) (cells cells' : List Cell) (r : Result (Header × ℕ) Refusal) : Type 0 where
-  pub too_long : nat_lt longest (length input) ≡ true → r ≡ Err Range
-  pub no_model : nat_lt longest (length input) ≡ false → ((n : ℕ) → ModelFront input n → ⊥) → r ≡ Err Garbled
-  pub model : nat_lt longest (length input) ≡ false → (n : ℕ) → ModelFront input n → Read (take n input) most w before after cells cells' (header_of r)
-  pub place : (n : ℕ) → ModelFront input n → (h : Header) (k : ℕ) → r ≡ Ok (h, k) → k ≡ n
-  pub unaltered : (e : Refusal) → r ≡ Err e → (after ≡ before) × (cells' ≡ cells)
+module _ (input : List ℕ) (longest most w : ℕ) (names : List (List ℕ)) (cells : ℕ) where
+  -- Why the front of an input is not read, in the order of the checks: where a model stands there,
+  -- it is refused as a text of its own.
+  pub data FrontRefused : Refusal → Type 0 where
+    too_large : ¬ RightSize longest w input → FrontRefused Range
+    no_model : RightSize longest w input → ((n : ℕ) → ¬ ModelFront input n) → FrontRefused Garbled
+    refused : {n : ℕ} {e : Refusal} → RightSize longest w input → FrontEnds input n →
+        TextRefused (take n input) most w names cells e → FrontRefused e
+
+module _ (input : List ℕ) (longest most w : ℕ)
+    (before after : Labels) (cells cells' : List Cell) where
+  -- The model at the front of an input, its first n bytes, is read as a text of its own.
+  pub record FrontTaken (h : Header) (n : ℕ) : Type 0 where
+    pub size : RightSize longest w input
+    pub ends : FrontEnds input n
+    pub read : TextRead (take n input) most w before after cells cells' h
+
+  -- What reading the front of an input of at most `longest` bytes does.
+  abbrev pub FrontRead : Result (Header × ℕ) Refusal → Type 0
+  FrontRead (Ok p) = FrontTaken p.0 p.1
+  FrontRead (Err e) =
+      FrontRefused input longest most w before (length cells) e
+      × Unaltered before after cells cells'

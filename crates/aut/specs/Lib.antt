@@ -4,7 +4,9 @@ pub mod Views
 pub mod Lines
 pub mod Surveys
 pub mod Laying
+pub mod Systems
 pub mod Reading
+pub mod Verdicts
 pub mod Agreement
 pub mod Front
 pub mod Writing

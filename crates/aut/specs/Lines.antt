@@ -14,7 +14,8 @@ use Rattle.aut.specs.Views.{line_of}
 abbrev pub lines_left : Lines → Option (List Transition)
 lines_left s = lines_of s.left s.text.now
 
--- What the next item says of the lines before and after it: there is none, there is a line, or the text is not of the form.
+-- What the next item says of the lines before and after it: there is none, there is a line, or the
+-- text is not of the form.
 abbrev pub TakesLine : Lines → Option (Result (Edge Name) Refusal) → Lines → Type 0
 TakesLine s None t = lines_left s ≡ Some []
 TakesLine s (Some (Ok l)) t = lines_left s ≡ option_map (λ ls. line_of l ∷ ls) (lines_left t)

@@ -1,29 +1,29 @@
 -- What the first pass over the lines finds out, before anything is written.
-use Rattle.std.specs.Prelude.{ℕ, ◌+◌, Bool, cond, ◌&&◌, List, replicate, Ok, Err, Option, Result, nat_le, nat_lt, slice_index, slice_set}
+use Rattle.std.specs.Prelude.{ℕ, ◌+◌, Bool, ◌&&◌, List, replicate, Option, nat_le, nat_lt, slice_index, slice_set, if◌then◌else◌}
 use Rattle.std.specs.Option.{option_map}
 use Rattle.std.specs.List.{fold}
-use Rattle.base.specs.declared.refusal.Refusal.{Refusal}
-use Rattle.base.specs.Listing.{add_answer, add_names}
-use Rattle.base.specs.Labels.{listed}
-use Rattle.aut.specs.declared.shape.Shape.{Shape}
+use Rattle.base.specs.Listing.{with_name, has_room_for}
+use Rattle.aut.specs.declared.grid_shape.GridShape.{GridShape}
 use Rattle.aut.specs.declared.survey.Fit.{Fit}
 use Rattle.aut.specs.declared.survey.Fit.TheVariants.{Whole, Full, Outside}
 use Rattle.aut.specs.declared.survey.Survey.{Survey}
 use Rattle.aut.specs.Form.{Transition}
 
--- the shape of the grid, and of the lines so far the names, how many transitions each state has, and whether all have room in the grid
+-- the shape of the grid, and of the lines so far the names, how many transitions each state has,
+-- and whether all have room in the grid
 pub record Seen : Type 0 where
-  pub shape : Shape
+  pub shape : GridShape
   pub names : List (List ℕ)
   pub counts : List ℕ
   pub fit : Fit
 
 abbrev pub seen : Survey → Seen
-seen s = record { shape = s.shape; names = listed s.labels; counts = s.counts.taken; fit = s.fit }
+seen s = record { shape = s.shape; names = s.labels; counts = s.counts.taken; fit = s.fit }
 
 -- no line yet
-abbrev pub unseen : Shape → List (List ℕ) → Seen
-unseen shape names = record { shape = shape; names = names; counts = replicate 65536 0; fit = Whole }
+abbrev pub unseen : GridShape → List (List ℕ) → Seen
+unseen shape names =
+    record { shape = shape; names = names; counts = replicate 65536 0; fit = Whole }
 
 -- both states are below n
 abbrev pub within : ℕ → Transition → Bool
@@ -36,13 +36,20 @@ no_room v = record { shape = v.shape; names = v.names; counts = v.counts; fit = 
 abbrev pub outside : Seen → Seen
 outside v = record { shape = v.shape; names = v.names; counts = v.counts; fit = Outside }
 
-abbrev pub named : Result ℕ Refusal → Transition → Seen → Seen
-named (Ok a) l v = record { shape = v.shape; names = add_names l.label v.names; counts = slice_set v.counts l.from (slice_index v.counts l.from + 1); fit = v.fit }
-named (Err e) l v = record { shape = v.shape; names = add_names l.label v.names; counts = v.counts; fit = Full }
+-- its label is among the names, and it is counted at its state
+abbrev pub named : Transition → Seen → Seen
+named l v = record {
+  shape = v.shape;
+  names = with_name l.label v.names;
+  counts = slice_set v.counts l.from (slice_index v.counts l.from + 1);
+  fit = v.fit;
+}
 
--- one transition more at its state
+-- one transition more at its state, if that has a free slot and the label a place
 abbrev pub placed : Transition → Seen → Seen
-placed l v = cond (nat_le v.shape.slots (slice_index v.counts l.from)) (no_room v) (named (add_answer l.label v.names) l v)
+placed l v =
+    if nat_le v.shape.slots (slice_index v.counts l.from) then no_room v
+    else (if has_room_for l.label v.names then named l v else no_room v)
 
 -- one line more whose states are in range, by how those before it fit
 abbrev pub noted_by : Fit → Transition → Seen → Seen
@@ -52,7 +59,7 @@ noted_by Outside l v = v
 
 -- one line more
 abbrev pub noted : Transition → Seen → Seen
-noted l v = cond (within v.shape.states l) (noted_by v.fit l v) (outside v)
+noted l v = if within v.shape.states l then noted_by v.fit l v else outside v
 
 abbrev pub all_noted : Seen → List Transition → Seen
 all_noted v ls = fold (λ x l. noted l x) v ls

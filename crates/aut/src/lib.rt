@@ -2,10 +2,10 @@
 #![tactic(auto)]
 
 pub mod agree;
-pub mod copy;
 mod counts;
 mod field;
 pub mod front;
+mod grid_shape;
 pub mod header;
 mod laying;
 mod lines;
@@ -14,9 +14,14 @@ mod plan;
 mod putting;
 pub mod reader;
 mod scan;
-mod shape;
 mod survey;
 mod tally;
 mod transition;
 mod walk;
 pub mod writer;
+
+pub use agree::{agreement, one_reading, reads_back};
+pub use front::{front_length, read_front};
+pub use header::Header;
+pub use reader::{MOST_BYTES, read, read_within};
+pub use writer::write;

@@ -6,9 +6,10 @@ ghost use Rattle.aut.specs.Lines.{lines_left, TakesLine};
 use crate::header::Header;
 use crate::scan::next_line;
 use crate::transition::Line;
-use base::refusal::Refusal;
+use base::Refusal;
 
-// The lines after line one, as many as it announces. A line that is not of the form is refused, and so is text after the last.
+// The lines after line one, as many as it announces. A line that is not of the form is refused, and
+// so is text after the last.
 #[derive(Drop)]
 pub(crate) struct Lines<'a> {
     text: &'a [u8],
@@ -17,7 +18,7 @@ pub(crate) struct Lines<'a> {
 
 impl<'a> Lines<'a> {
     // The lines of a text after its line one.
-    pub(crate) fn after(header: &Header, body: &'a [u8]) -> Lines<'a>
+    pub(crate) fn new(header: &Header, body: &'a [u8]) -> Lines<'a>
         ensures { lines_left result ≡ lines_of header.now.transitions body.now }
     {
         Lines {

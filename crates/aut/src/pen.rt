@@ -1,7 +1,8 @@
 ghost use Rattle.std.specs.Prelude.{◌≤◌, length};
 
-// A text as far as it is written: the bytes before a place are, and those from there on are room.
-// kept: a place in the whole text: what is written is told from the whole, which a slice of what is left does not show.
+// A text as far as it is written: the bytes before a place are, and those from there on are room. A
+// place in the whole text: what is written is told from the whole, which a slice of what is left
+// does not show.
 #[derive(Drop)]
 pub(crate) struct Pen<'a> {
     text: &'a mut [u8],
@@ -30,7 +31,8 @@ impl<'a> Pen<'a> {
     }
 
     // Writes bytes.
-    // kept: each call that writes asks for room, here and where lines are put together, since how much is about what that call writes.
+    // Each call that writes asks for room, here and where lines are put together, since how much is
+    // about what that call writes.
     pub(crate) fn put(&mut self, bytes: &[u8])
         requires { length bytes.now ≤ length (room self.old) }
         ensures { Wrote self.old bytes.now self.new }

@@ -1,11 +1,10 @@
 ghost use Rattle.std.specs.Prelude.{◌≡◌, ◌≤◌, IfSome, length, decimal};
-ghost use Rattle.base.specs.Labels.{listed};
 ghost use Rattle.aut.specs.Writing.{line_length, move_text, head_of, most_digits, longest_line, longest_head};
 
 use crate::header::Header;
 use crate::pen::Pen;
 use crate::transition::Move;
-use base::labels::Labels;
+use base::Labels;
 use itoa::Buffer;
 
 // How many bytes of a line are neither of a number nor of the name.
@@ -26,7 +25,7 @@ fn number_length(number: usize) -> usize
 
 // How long the line of a transition is, if its action has a name.
 pub(crate) fn line_length(labels: &Labels, line: Move) -> Option<usize>
-    ensures long { result ≡ line_length (listed labels.now) line }
+    ensures long { result ≡ line_length labels.now line }
     ensures few { IfSome result (λ n. n ≤ longest_line) }
 {
     let name = labels.name_of(line.label)?;
@@ -68,8 +67,8 @@ impl Pen<'_> {
 
     // The line of a transition. An action without a name has no bytes there.
     pub(crate) fn put_line(&mut self, labels: &Labels, line: Move)
-        requires { length (move_text (listed labels.now) line) ≤ length (room self.old) }
-        ensures { Wrote self.old (move_text (listed labels.now) line) self.new }
+        requires { length (move_text labels.now line) ≤ length (room self.old) }
+        ensures { Wrote self.old (move_text labels.now line) self.new }
     {
         let mut from = Buffer::new();
         let mut to = Buffer::new();

@@ -3,19 +3,21 @@ ghost use Rattle.std.specs.Option.{option_map};
 ghost use Rattle.aut.specs.Scanning.{begin, digit_in, letter_in, store_in, next, scan_on, first_line, next_line};
 ghost use Rattle.aut.specs.Views.{line_of, view};
 
-use crate::field::{Field, Part, Turn, byte_means};
+use crate::field::{Effect, Field, NumberRole, byte_means};
 use crate::header::Header;
 use crate::transition::{Edge, Line};
-use base::name::Name;
+use base::{BoundedVec, LONGEST_NAME, Name};
 
-// The reader within a line: the field, the number being read if a digit of it was, and what was read before.
-// kept: one reader for both kinds of line, of which callers see the half that is real; one for each would say its steps twice.
+// The reader within a line: the field, the number being read if a digit of it was, and what was
+// read before. Letters of a label are no name yet.
+// One reader for both kinds of line, of which callers see the half that is real; one for each would
+// say its steps twice.
 #[derive(Clone, Copy)]
 struct Scan {
     field: Field,
     number: Option<usize>,
     header: Header,
-    line: Line,
+    line: Edge<BoundedVec<u8, LONGEST_NAME>>,
 }
 
 impl Scan {
@@ -30,7 +32,7 @@ impl Scan {
         };
         let line = Edge {
             from: 0,
-            label: Name::empty(),
+            label: BoundedVec::new(),
             to: 0,
         };
         Scan {
@@ -66,17 +68,17 @@ impl Scan {
     }
 
     // The number ends, if it has a digit, and is kept.
-    fn store(&mut self, part: Part, field: Field) -> Option<()>
+    fn store(&mut self, part: NumberRole, field: Field) -> Option<()>
         ensures { option_map (λ _. view self.new) result ≡ store_in part field (view self.old) }
     {
         let number = self.number.take()?;
         self.field = field;
         match part {
-            Part::StartState => self.header.start = number,
-            Part::LineCount => self.header.transitions = number,
-            Part::StateCount => self.header.states = number,
-            Part::Source => self.line.from = number,
-            Part::Target => self.line.to = number,
+            NumberRole::StartState => self.header.start = number,
+            NumberRole::LineCount => self.header.transitions = number,
+            NumberRole::StateCount => self.header.states = number,
+            NumberRole::Source => self.line.from = number,
+            NumberRole::Target => self.line.to = number,
         }
         Some(())
     }
@@ -86,18 +88,19 @@ impl Scan {
         ensures { option_map (λ _. view self.new) result ≡ next (view self.old) byte }
     {
         match byte_means(self.field, byte)? {
-            Turn::Next(field) => {
+            Effect::Next(field) => {
                 self.field = field;
                 Some(())
             }
-            Turn::Digit(field) => self.digit(field, byte - b'0'),
-            Turn::Letter => self.letter(byte),
-            Turn::Store(part, field) => self.store(part, field),
+            Effect::Digit(field) => self.digit(field, byte - b'0'),
+            Effect::Letter => self.letter(byte),
+            Effect::Store(part, field) => self.store(part, field),
         }
     }
 }
 
-// The line that a text begins with, from a field on: what the reader then has, and the text after it.
+// The line that a text begins with, from a field on: what the reader then has, and the text after
+// it.
 fn scan_line(text: &[u8], field: Field) -> Option<(Scan, &[u8])>
     ensures { option_map (λ p. (view p.0, p.1.now)) result ≡ scan_on (begin field) text.now }
 {
@@ -117,7 +120,9 @@ fn scan_line(text: &[u8], field: Field) -> Option<(Scan, &[u8])>
 pub(crate) fn first_line(text: &[u8]) -> Option<(Header, &[u8])>
     ensures { option_map (λ p. (p.0, p.1.now)) result ≡ first_line text.now }
 {
-    let (scan, rest) = scan_line(text, Field::D)?;
+    let Some((scan, rest)) = scan_line(text, Field::D) else {
+        return None;
+    };
     Some((scan.header, rest))
 }
 
@@ -125,6 +130,10 @@ pub(crate) fn first_line(text: &[u8]) -> Option<(Header, &[u8])>
 pub(crate) fn next_line(text: &[u8]) -> Option<(Line, &[u8])>
     ensures { option_map (λ p. (line_of p.0, p.1.now)) result ≡ next_line text.now }
 {
-    let (scan, rest) = scan_line(text, Field::Open)?;
-    Some((scan.line, rest))
+    let Some((scan, rest)) = scan_line(text, Field::Open) else {
+        return None;
+    };
+    let Edge { from, label, to } = scan.line;
+    let label = Name::from_bytes(label)?;
+    Some((Edge { from, label, to }, rest))
 }

@@ -1,4 +1,4 @@
-use base::name::Name;
+use base::Name;
 
 // A transition: from a state, by a label, to a state.
 #[derive(Clone, Copy)]

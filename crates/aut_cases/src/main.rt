@@ -1,11 +1,11 @@
-// Runs the reader on a table of texts, one a line of standard input, and prints what it answers and leaves.
-// A line is S, the number of cells, and the text, in which \n stands for byte 10 and \\ for a backslash.
+// Runs the reader on a table of texts, one a line of standard input, and prints what it answers and
+// leaves. A line is S, the number of cells, and the text, in which \n stands for byte 10 and \\ for
+// a backslash.
 #![tactic(auto)]
 
-use aut::header::Header;
-use aut::reader::read;
-use base::labels::Labels;
-use model::cell::Cell;
+use aut::{Header, read, read_front};
+use base::Labels;
+use model::Cell;
 use std::alloc::{AllocError, Global};
 use std::{fmt, io};
 
@@ -82,15 +82,16 @@ fn untouched(cells: &[Cell]) -> bool {
     cells.iter().all(|cell| *cell == UNTOUCHED)
 }
 
-// Reads a text into so many cells, and prints what came of it. A refusal must leave the labels and the cells as they were.
+// Reads a text into so many cells, and prints what came of it. A refusal must leave the labels and
+// the cells as they were.
 fn run(rt: &HostRuntime, slots: usize, count: usize, text: &[u8]) -> io::Result<()> {
-    let mut labels = Labels::fresh();
+    let mut labels = Labels::new();
     let mut room = [UNTOUCHED; MOST_CELLS];
     let cells = &mut room[0..count.min(MOST_CELLS)];
     match read(text, &mut labels, cells, slots) {
         Ok(header) => print_read(rt, header, &labels, cells),
         Err(why) => {
-            let same = untouched(cells) && labels.count() == 1;
+            let same = untouched(cells) && labels.len() == 1;
             println!(rt; "refused {}, unaltered: {same}", why.number())
         }
     }
@@ -124,18 +125,47 @@ mod tests {
 
     // What one slot a state makes of a text, or the number of its refusal.
     fn answer(text: &[u8]) -> Result<Header, u8> {
-        let mut labels = Labels::fresh();
+        let mut labels = Labels::new();
         let mut cells = [UNTOUCHED; 1];
         read(text, &mut labels, &mut cells, 1).map_err(|why| why.number())
     }
 
-    // A text of the most bytes is read, and is not of the form; one byte more is refused as too large.
+    // A text of the most bytes is read, and is not of the form; one byte more is refused as too
+    // large.
     #[test]
     fn longest_text(rt: HostRuntime) -> Result<(), Fail> {
         let mut text = vec![in rt.alloc(); b'x'; 2_500_000]?;
         assert_eq!(rt; answer(text.as_slice()), Err(2));
         text.push(b'x')?;
         assert_eq!(rt; answer(text.as_slice()), Err(3));
+        Ok(())
+    }
+
+    // What so many slots a state make of the front of an input of at most 20 bytes, for a model of
+    // at most two states, or the number of its refusal.
+    fn front(input: &[u8], slots: usize) -> Result<(Header, usize), u8> {
+        let mut labels = Labels::new();
+        let mut cells = [UNTOUCHED; 1];
+        read_front(input, 20, &mut labels, &mut cells, slots, 2).map_err(|why| why.number())
+    }
+
+    // How long the input is and S come first, then whether a model stands at the front, and then
+    // what is wrong with its text.
+    #[test]
+    fn front_order(rt: HostRuntime) -> Result<(), Fail> {
+        assert_eq!(rt; front(b"x", 65), Err(3));
+        assert_eq!(rt; front(b"x", 0), Err(3));
+        assert_eq!(rt; front(b"not a model, but too long", 1), Err(3));
+        assert_eq!(rt; front(b"x", 64), Err(2));
+        assert_eq!(rt; front(b"des (0,1,3)\n", 1), Err(2));
+        assert_eq!(rt; front(b"des (0,0,3)\n", 1), Err(3));
+        assert_eq!(rt; front(b"des (0,0,2)\n", 1), Err(1));
+        let header = Header {
+            start: 0,
+            transitions: 0,
+            states: 1,
+        };
+        assert_eq!(rt; front(b"des (0,0,1)\nEX tau", 1), Ok((header, 12)));
         Ok(())
     }
 
@@ -148,7 +178,8 @@ mod tests {
         Ok(text)
     }
 
-    // The most transitions that a text may have find too few slots here; with one more it is refused as too large.
+    // The most transitions that a text may have find too few slots here; with one more it is
+    // refused as too large.
     #[test]
     fn most_transitions(rt: HostRuntime) -> Result<(), Fail> {
         let most = loops(rt.alloc(), "des (0,65536,1)\n", 65_536)?;

@@ -1,4 +1,4 @@
-pub mod Holding
+pub mod Filling
 pub mod Listed
 pub mod Bitwise
 pub mod Adding

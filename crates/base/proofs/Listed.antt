@@ -1,37 +1,12 @@
--- The names that a table lists: how many, which, and one more.
-use Rattle.std.proofs.Common.{◌≡◌, ℕ, ◌+◌, ◌≤◌, Bool, true, false, cond, not, ◌&&◌, ◌||◌, leb, ltb, List, [], ◌∷◌, ◌++◌, map, length, take, Some, None, sym, refl, ap, ◌∙◌, ⊎_elim, arith}
+-- The names of a label list: which there are, and one more.
+use Rattle.std.proofs.Common.{◌≡◌, ℕ, suc, ◌+◌, ◌<◌, Bool, true, false, cond, not, ◌&&◌, ◌||◌, leb, List, [], ◌∷◌, ◌++◌, length, take, Some, None, sym, refl, ap, ◌∙◌, ⊎_elim, arith}
 use Rattle.std.specs.Str.{bytes_eq}
-use Rattle.std.proofs.lemmas.List.{length-map, map_push, take_all}
+use Rattle.std.proofs.lemmas.List.{take_all}
 use Rattle.std.proofs.lemmas.List.Folds.{list_any-append, list_all-append}
-use Rattle.std.proofs.lemmas.Bool.{both_ways, and_parts, and_from, or_from, or_parts, not-true, not_from_false, cases_Bool, leb-true, cond-true, cond-false, lt-leb, le-leb, ltb-true, ltb-false}
+use Rattle.std.proofs.lemmas.Bool.{both_ways, and_parts, and_from, or_from, or_parts, not-true, not_from_false, cases_Bool, leb-true, cond-true}
 use Rattle.std.proofs.lemmas.Slice.Eq.{bytes_eq-Decides}
-use Rattle.std.specs.List.{position, position_from}
-use Rattle.std.proofs.lemmas.Iterator.Adapters.{position_from-zero}
 use Rattle.base.specs.Names.{is_name, begins_name, name_bytes}
-use Rattle.base.specs.Listing.{spelled, place, known, all_names, distinct, tau_first, lawful, action_of, names_at, add_names}
-use Rattle.base.specs.Labels.{listed}
-use Rattle.base.specs.Few.{held}
-use Rattle.base.specs.declared.few.Few.{Few}
-use Rattle.base.proofs.Holding.{held-fits}
-use Rattle.base.specs.declared.labels.Labels.{Labels}
-use Rattle.base.specs.declared.name.Name.{Name}
-
--- no more names than there is room for
-pub listed-fits : (l : Labels) → length (listed l) ≤ 64
-listed-fits l = omega (arith, length-map (held l.names) spelled, held-fits l.names)
-
--- the first name that is spelled so, found by its spelling
-at_spelling : (name : List ℕ) (k : ℕ) (ns : List Name) → position_from (λ n. bytes_eq (spelled n) name) k ns ≡ place k name (map spelled ns)
-at_spelling name k [] = refl
-at_spelling name k (n ∷ ns) = ap (cond (bytes_eq (spelled n) name) (Some k)) (at_spelling name (k + 1) ns)
-
-pub action_of-spelled : (name : List ℕ) (ns : List Name) → position (λ n. bytes_eq (spelled n) name) ns ≡ action_of name (map spelled ns)
-action_of-spelled name ns = position_from-zero (λ n. bytes_eq (spelled n) name) ns ∙ at_spelling name 0 ns
-
--- what adding does with a name that is new
-pub new-names : (name : List ℕ) (xs : List (List ℕ)) → true ≡ is_name name → None ≡ action_of name xs →
-    add_names name xs ≡ cond (leb 64 (length xs)) xs (xs ++ name ∷ [])
-new-names name xs h e = cond-true _ _ _ (sym h) ∙ ap (λ o. names_at o name xs) (sym e)
+use Rattle.base.specs.Listing.{place, known, all_names, distinct, tau_first, lawful, action_of}
 
 -- a name that has no place is not known
 pub unknown : (k : ℕ) (name : List ℕ) (xs : List (List ℕ)) → place k name xs ≡ None → known name xs ≡ false
@@ -46,6 +21,22 @@ pub same-turned : (x y : List ℕ) → bytes_eq x y ≡ false → bytes_eq y x �
 same-turned x y h =
     ⊎_elim (λ t. absurd (both_ways (bytes_eq x y) h ((bytes_eq-Decides x y).1 (sym ((bytes_eq-Decides y x).0 t))))) (λ f. f) (cases_Bool (bytes_eq y x))
 
+-- a text is the same as itself
+pub same_itself : (x : List ℕ) → bytes_eq x x ≡ true
+same_itself x = (bytes_eq-Decides x x).1 refl
+
+-- a name that is put at the end is found there
+place-push : (k : ℕ) (y : List ℕ) (xs : List (List ℕ)) → place k y xs ≡ None → place k y (xs ++ y ∷ []) ≡ Some (k + length xs)
+place-push k y [] h = let e : k ≡ k + 0 = omega arith in cond-true _ _ _ (same_itself y) ∙ ap Some e
+place-push k y (x ∷ xs) h = at (bytes_eq x y) (λ e. place-push (k + 1) y xs e) h
+  where
+    at : (b : Bool) → (place (k + 1) y xs ≡ None → place (k + 1) y (xs ++ y ∷ []) ≡ Some (k + 1 + length xs)) → cond b (Some k) (place (k + 1) y xs) ≡ None → cond b (Some k) (place (k + 1) y (xs ++ y ∷ [])) ≡ Some (k + suc (length xs))
+    at true f e = cc
+    at false f e = let n : k + 1 + length xs ≡ k + suc (length xs) = omega arith in f e ∙ ap Some n
+
+pub action_of-push : (y : List ℕ) (xs : List (List ℕ)) → action_of y xs ≡ None → action_of y (xs ++ y ∷ []) ≡ Some (length xs)
+action_of-push y xs h = let e : 0 + length xs ≡ length xs = omega arith in place-push 0 y xs h ∙ ap Some e
+
 distinct_push : (y : List ℕ) (xs : List (List ℕ)) → distinct xs ≡ true → known y xs ≡ false → distinct (xs ++ y ∷ []) ≡ true
 distinct_push y [] h k = refl
 distinct_push y (x ∷ xs) h k =
@@ -59,7 +50,7 @@ tau_first-push y [] h = absurd (both_ways false refl h)
 tau_first-push y (x ∷ xs) h = h
 
 -- a new name at the end keeps the law
-lawful-push : (y : List ℕ) (xs : List (List ℕ)) → lawful xs ≡ true → is_name y ≡ true → known y xs ≡ false → lawful (xs ++ y ∷ []) ≡ true
+pub lawful-push : (y : List ℕ) (xs : List (List ℕ)) → lawful xs ≡ true → is_name y ≡ true → known y xs ≡ false → lawful (xs ++ y ∷ []) ≡ true
 lawful-push y xs h n k =
     let p = and_parts (tau_first xs) (all_names xs && distinct xs) h in
     let q = and_parts (all_names xs) (distinct xs) p.1 in
@@ -69,27 +60,7 @@ lawful-push y xs h n k =
 pub name-fits : (y : List ℕ) → is_name y ≡ true → take 16 y ≡ y
 name-fits y h = take_all 16 y (leb-true _ _ (and_parts (leb (length y) 16) (begins_name y && name_bytes y) h).0)
 
--- a label list with a new name at the end, whose bytes are a text's
-module _ (l : Labels) (n : Name) (y : List ℕ) (is : true ≡ is_name y) (told : spelled n ≡ take 16 y) where
-  grown : map spelled (held l.names ++ n ∷ []) ≡ listed l ++ y ∷ []
-  grown = map_push spelled (held l.names) n ∙ ap (λ x. listed l ++ x ∷ []) (told ∙ name-fits y (sym is))
-
-  -- with it, or without where there is no room
-  module _ (new : None ≡ action_of y (listed l)) (f : Few Name 64) (pushed : held f ≡ cond (ltb (length (held l.names)) 64) (held l.names ++ n ∷ []) (held l.names)) where
-    pub pushed-lawful : lawful (map spelled (held f)) ≡ true
-    pushed-lawful = ap (λ ns. lawful (map spelled ns)) pushed ∙ each (ltb (length (held l.names)) 64)
-      where
-        each : (b : Bool) → lawful (map spelled (cond b (held l.names ++ n ∷ []) (held l.names))) ≡ true
-        each true = ap lawful grown ∙ lawful-push y (listed l) l.kept (sym is) (unknown 0 y (listed l) (sym new))
-        each false = l.kept
-
-    pub pushed-names : map spelled (held f) ≡ add_names y (listed l)
-    pushed-names = ap (map spelled) pushed ∙ each (ltb (length (held l.names)) 64) refl ∙ sym (new-names y (listed l) is new)
-      where
-        long : length (listed l) ≡ length (held l.names)
-        long = length-map (held l.names) spelled
-
-        each : (b : Bool) → ltb (length (held l.names)) 64 ≡ b →
-            map spelled (cond b (held l.names ++ n ∷ []) (held l.names)) ≡ cond (leb 64 (length (listed l))) (listed l) (listed l ++ y ∷ [])
-        each true h = grown ∙ sym (cond-false _ _ _ (lt-leb 64 (length (listed l)) (omega (arith, long, ltb-true _ _ h))))
-        each false h = sym (cond-true _ _ _ (le-leb 64 (length (listed l)) (omega (arith, long, ltb-false _ _ h))))
+-- tau is there
+pub not_empty : (xs : List (List ℕ)) → lawful xs ≡ true → 0 < length xs
+not_empty [] h = absurd (both_ways false refl h)
+not_empty (x ∷ xs) h = omega arith

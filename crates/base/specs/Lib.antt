@@ -1,6 +1,6 @@
 pub mod Refusals
 pub mod Names
-pub mod Few
+pub mod BoundedVec
 pub mod Labels
 pub mod Listing
 pub mod Sets

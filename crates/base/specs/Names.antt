@@ -1,4 +1,5 @@
--- What a name is: a lower-case letter, then lower-case letters, digits and underscores; 1 to 16 bytes in all.
+-- What a name is: a lower-case letter, then lower-case letters, digits and underscores; 1 to 16
+-- bytes in all.
 use Rattle.std.specs.Prelude.{ℕ, Bool, false, ◌&&◌, ◌||◌, List, [], ◌∷◌, length, ◌==◌, nat_le}
 use Rattle.std.specs.List.{list_all}
 

@@ -1,5 +1,5 @@
--- The number and the word of each refusal.
-use Rattle.std.specs.Prelude.{ℕ, List, codes}
+-- The number and the word of each refusal, and the number of an answer.
+use Rattle.std.specs.Prelude.{ℕ, List, codes, Ok, Err, Result}
 use Rattle.base.specs.declared.refusal.Refusal.{Refusal}
 use Rattle.base.specs.declared.refusal.Refusal.TheVariants.{Short, Garbled, Range, Crowded, Grammar, Nameless, Full, Unheard, Silent, TooBig}
 
@@ -26,3 +26,8 @@ word_of Full = codes "full"
 word_of Unheard = codes "unheard"
 word_of Silent = codes "silent"
 word_of TooBig = codes "too big"
+
+-- the number of an answer: 0, or that of the refusal
+abbrev pub answer_number : {T : Type 0} → Result T Refusal → ℕ
+answer_number (Ok v) = 0
+answer_number (Err e) = number_of e

@@ -1,69 +1,102 @@
-ghost use Rattle.std.specs.Prelude.{◌≡◌, true, length};
+ghost use Rattle.std.specs.Prelude.{◌≡◌, IsTrue};
+ghost use Rattle.base.specs.Names.{is_name};
 
-use crate::few::Few;
+use crate::bounded_vec::{BoundedVec, Filler};
+use crate::spelling::is_name;
+use std::marker::Model;
 
-// The most bytes that a name has.
+/// The most bytes that a name has.
 pub const LONGEST_NAME: usize = 16;
 
-// The bytes of a name as far as it is read: at most 16.
-#[derive(Clone, Copy)]
+/// A name: a lower-case letter, then lower-case letters, digits and underscores; 1 to 16 bytes in
+/// all. There is no other value of the type. Contracts see it as its bytes.
+#[derive(Clone, Copy, PartialEq, Eq, Debug)]
 pub struct Name {
-    bytes: Few<u8, LONGEST_NAME>,
+    bytes: BoundedVec<u8, LONGEST_NAME>,
 }
 
-// Whether two texts are equally long and end with the same byte, as equal texts do. Names of one family mostly differ at the end, so
-// this is looked at before the whole.
-// kept: beside `==`, since without it a text of 63 names that differ at the end takes a quarter more time to read.
+impl Model for Name {
+    ghost use Rattle.std.specs.Prelude.{ℕ, List, IsTrue};
+    ghost use Rattle.base.specs.Names.{is_name};
+
+    ghost Value = { List ℕ };
+
+    ghost view = { λ n. n.bytes };
+
+    ghost invariant = { λ n. IsTrue (is_name n.bytes) };
+
+    ghost inverse = { λ bytes. record { bytes = bytes } };
+}
+
+// Whether two texts are equally long and end with the same byte, as equal texts do. Names of one
+// family mostly differ at the end, so this is looked at before the whole: without it a text of 63
+// names that differ at the end takes a quarter more time to read.
 fn ends_alike(one: &[u8], other: &[u8]) -> bool
-    ensures { one.now ≡ other.now → result ≡ true }
+    ensures { one.now ≡ other.now → IsTrue result }
 {
     one.len() == other.len() && one.last() == other.last()
 }
 
 impl Name {
-    ghost use Rattle.std.specs.Prelude.{[], ◌∷◌, ◌++◌, Some, None, take, cond, nat_lt};
+    ghost use Rattle.std.specs.Prelude.{Some, None, codes, if◌then◌else◌};
     ghost use Rattle.std.specs.Str.{bytes_eq};
-    ghost use Rattle.base.specs.Listing.{spelled};
 
-    // No byte yet.
-    pub fn empty() -> Name
-        ensures { spelled result ≡ [] }
+    /// The name that a text is, if it is one.
+    pub fn new(text: &[u8]) -> Option<Name>
+        ensures { result ≡ (if is_name text.now then Some text.now else None) }
+    {
+        if !is_name(text) {
+            return None;
+        }
+        Some(Name {
+            bytes: BoundedVec::from_slice(text),
+        })
+    }
+
+    /// The name that bytes which are gathered already are, if they are one.
+    #[inline]
+    pub fn from_bytes(bytes: BoundedVec<u8, LONGEST_NAME>) -> Option<Name>
+        ensures { result ≡ (if is_name bytes then Some bytes else None) }
+    {
+        if !is_name(bytes.as_slice()) {
+            return None;
+        }
+        Some(Name { bytes })
+    }
+
+    // The name of the silent action.
+    pub(crate) fn tau() -> Name
+        ensures { result ≡ codes "tau" }
     {
         Name {
-            bytes: Few::none(0),
+            bytes: BoundedVec::from_slice(b"tau"),
         }
     }
 
-    // One byte more, if there are fewer than 16.
-    pub fn push(&mut self, byte: u8) -> Option<()>
-        ensures answer { result ≡ cond (nat_lt (length (spelled self.old)) 16) (Some tt) None }
-        ensures after { spelled self.new ≡ cond (nat_lt (length (spelled self.old)) 16) (spelled self.old ++ byte ∷ []) (spelled self.old) }
-    {
-        self.bytes.push(byte)
-    }
-
-    // The first bytes of a text, 16 at most.
-    pub fn of(text: &[u8]) -> Name
-        ensures { spelled result ≡ take 16 text.now }
-    {
-        Name {
-            bytes: Few::of(text, 0),
-        }
-    }
-
-    // The bytes.
+    /// The bytes.
     pub fn as_bytes(&self) -> &[u8]
-        ensures { result.now ≡ spelled self.now }
+        ensures bytes { result.now ≡ self.now }
+        ensures named { IsTrue (is_name self.now) }
     {
         self.bytes.as_slice()
     }
 
-    // Whether it is spelled so.
-    // kept: a method, since `PartialEq` here compares only values of one type.
+    /// Whether it is spelled so.
+    /// A method, since `PartialEq` here compares only values of one type.
     pub fn is(&self, text: &[u8]) -> bool
-        ensures { result ≡ bytes_eq (spelled self.now) text.now }
+        ensures { result ≡ bytes_eq self.now text.now }
     {
         let own = self.as_bytes();
         ends_alike(own, text) && own == text
+    }
+}
+
+impl Filler for Name {
+    ghost use Rattle.std.specs.Prelude.{codes};
+
+    ghost filler = { codes "tau" };
+
+    fn filler() -> Name {
+        Name::tau()
     }
 }

@@ -4,41 +4,41 @@ ghost use Rattle.base.specs.Refusals.{number_of, word_of};
 use std::error::Error;
 use std::fmt;
 
-// Why a call is refused. A refused call alters nothing that it was handed.
+/// Why a call is refused. A refused call alters nothing that it was handed.
 #[derive(Clone, Copy, PartialEq, Eq, Debug)]
 pub enum Refusal {
-    // a list is too short for what it is to hold
+    /// a list is too short for what it is to hold
     Short = 1,
-    // a text is not of its form
+    /// a text is not of its form
     Garbled = 2,
-    // a number is outside its limits
+    /// a number is outside its limits
     Range = 3,
-    // more transitions at a state than slots, or more labels than fit
+    /// more transitions at a state than slots, or more labels than fit
     Crowded = 4,
-    // a formula is not of the grammar
+    /// a formula is not of the grammar
     Grammar = 5,
-    // a name is in no label list, or an action has no name
+    /// a name is in no label list, or an action has no name
     Nameless = 6,
-    // no room for another formula or node
+    /// no room for another formula or node
     Full = 7,
-    // there is no such formula, or it is not judged yet
+    /// there is no such formula, or it is not judged yet
     Unheard = 8,
-    // the silent action in a handshake set
+    /// the silent action in a handshake set
     Silent = 9,
-    // a joined model, or a text to write, is over its limit
+    /// a joined model, or a text to write, is over its limit
     TooBig = 10,
 }
 
 impl Refusal {
-    // The number by which it is told.
-    // kept: beside `From`, as the plainer word at its many callers.
+    /// The number by which it is told.
+    // Beside `From`, as the plainer word at its many callers.
     pub fn number(self) -> u8
         ensures { result ≡ number_of self }
     {
         self.into()
     }
 
-    // The word for it.
+    /// The word for it.
     pub fn word(self) -> &'static str
         ensures { result.now ≡ word_of self }
     {

@@ -3,14 +3,14 @@ ghost use Rattle.base.specs.Names.{letter, name_byte, name_bytes, begins_name, i
 
 use crate::name::LONGEST_NAME;
 
-// Whether a byte is a lower-case letter.
+/// Whether a byte is a lower-case letter.
 pub fn is_letter(byte: u8) -> bool
     ensures { result ≡ letter byte }
 {
     byte.is_ascii_lowercase()
 }
 
-// Whether a byte may stand in a name.
+/// Whether a byte may stand in a name.
 pub fn is_name_byte(byte: u8) -> bool
     ensures { result ≡ name_byte byte }
 {
@@ -31,7 +31,7 @@ fn has_name_bytes(text: &[u8]) -> bool
     text.iter().all(|byte| is_name_byte(*byte))
 }
 
-// Whether a text is a name.
+/// Whether a text is a name.
 pub fn is_name(text: &[u8]) -> bool
     ensures { result ≡ is_name text.now }
 {

@@ -1,4 +1,5 @@
-// What the benchmark in bench/ calls. Each function does a job of the library some times over, and says what came out of the last time.
+// What the benchmark in bench/ calls. Each function does a job of the library some times over, and
+// says what came out of the last time.
 #![tactic(auto)]
 
 pub mod marks;

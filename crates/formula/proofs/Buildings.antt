@@ -1,7 +1,7 @@
 -- The functions that read formulas, step by step.
 use Rattle.std.proofs.Common.{◌≡◌, ℕ, ◌+◌, ◌≤◌, false, cond, ◌⊎◌, List, [], ◌∷◌, length, Some, None, Option, sym, refl, ap, ◌∙◌, subst, inl, inr, arith}
 use Rattle.std.specs.Borrow.{Bor}
-use Rattle.base.specs.Labels.{listed}
+use Rattle.formula.specs.Vocabulary.{Vocabulary, vocabulary}
 use Rattle.base.specs.declared.action_set.ActionSet.{ActionSet}
 use Rattle.formula.specs.declared.built.Found.{Found}
 use Rattle.formula.specs.declared.built.Joint.{Joint}
@@ -9,19 +9,20 @@ use Rattle.formula.specs.declared.built.Joint.TheVariants as joint
 use Rattle.formula.specs.declared.built.Level.{Level}
 use Rattle.formula.specs.declared.node.Part.{Part}
 use Rattle.formula.specs.declared.cursor.Cursor.{Cursor}
-use Rattle.formula.specs.declared.mark.Link.{Link}
-use Rattle.formula.specs.declared.mark.Mark.{Mark}
-use Rattle.formula.specs.declared.mark.Mark.TheVariants.{Tau, Between}
-use Rattle.formula.specs.declared.mark.Quantifier.{Quantifier}
-use Rattle.formula.specs.declared.mark.Sign.TheVariants.{BracketOpen, BracketClose, BraceOpen}
-use Rattle.formula.specs.declared.nodes.Draft.{Draft}
+use Rattle.formula.specs.declared.symbol.Link.{Link}
+use Rattle.formula.specs.declared.symbol.Symbol.{Symbol}
+use Rattle.formula.specs.declared.symbol.Symbol.TheVariants.{Tau, Between}
+use Rattle.formula.specs.declared.symbol.Quantifier.{Quantifier}
+use Rattle.formula.specs.declared.symbol.Sign.TheVariants.{BracketOpen, BracketClose, BraceOpen}
+use Rattle.formula.specs.declared.draft.Draft.{Draft}
 use Rattle.formula.specs.declared.token.Token.{Token}
-use Rattle.formula.specs.Tokens.{Tok, mark, name}
+use Rattle.formula.specs.Tokens.{Tok, symbol, name}
 use Rattle.formula.specs.Grammar.{begins}
 use Rattle.formula.specs.Building.{Laid, BuildsBy, Builds, LaidPart, BuildsPart}
 use Rattle.formula.specs.Choosing.{IsSet, ChoosesBy}
 use Rattle.formula.specs.Finding.{Settles}
-use Rattle.formula.specs.Laying.{Shape, and_node, or_node, drafted, push, top, lay}
+use Rattle.formula.specs.Laying.{drafted, push, top, lay}
+use Rattle.formula.specs.Shapes.{Shape, and_node, or_node}
 use Rattle.formula.specs.Levels.{stage, node_of}
 use Rattle.formula.specs.Levels as levels
 use Rattle.formula.specs.Places.{unread, ahead, moved, first}
@@ -34,20 +35,20 @@ use Rattle.formula.proofs.Layings as layings
 pub no_mark : (r : Reader Tree) (ts : List Tok) → first ts ≡ None → formula r ts ≡ None
 no_mark r [] e = refl
 no_mark r (name w ∷ ts) e = refl
-no_mark r (mark m ∷ ts) e = let z : ◌≡◌ {A = ℕ} 0 1 = cc in absurd (omega arith)
+no_mark r (symbol m ∷ ts) e = let z : ◌≡◌ {A = ℕ} 0 1 = cc in absurd (omega arith)
 
-pub no_formula : (r : Reader Tree) (m : Mark) (ts : List Tok) → (m ≡ Tau) ⊎ ((x : Link) × m ≡ Between x) → formula_at r m ts ≡ None
+pub no_formula : (r : Reader Tree) (m : Symbol) (ts : List Tok) → (m ≡ Tau) ⊎ ((x : Link) × m ≡ Between x) → formula_at r m ts ≡ None
 no_formula r m ts (inl e) = ap (λ k. formula_at r k ts) e
 no_formula r m ts (inr p) = ap (λ k. formula_at r k ts) p.1
 
 -- a formula, by its first word
-pub by_mark : (c k : Cursor) (before after : Draft) (m m' : Mark) (rest : Bor (List Token)) → ahead c ≡ mark m ∷ unread rest → m ≡ m' → k ≡ moved c rest →
+pub by_mark : (c k : Cursor) (before after : Draft) (m m' : Symbol) (rest : Bor (List Token)) → ahead c ≡ symbol m ∷ unread rest → m ≡ m' → k ≡ moved c rest →
     (r : Option (Found ℕ)) → BuildsBy k before after (λ r ts. formula_at r m' ts) r → Builds c before after Tight r
 by_mark c k before after m m' rest e q p r f =
-    findings.tight-from (λ names. Laid names before after) formula_rules c k (mark m') rest p (e ∙ ap (λ x. mark x ∷ unread rest) q) r f
+    findings.tight-from (λ names. Laid names before after) formula_rules c k (symbol m') rest p (e ∙ ap (λ x. symbol x ∷ unread rest) q) r f
 
 -- a node over two that were laid, in a draft that is the same as theirs
-laid-two : (names : List (List ℕ)) (f : ℕ → ℕ → Shape) (x y : Tree) (s t u u' d d' : Draft) (v w z : ℕ) → Laid names s t x v → Laid names t u y w → d ≡ u → d' ≡ u' →
+laid-two : (names : Vocabulary) (f : ℕ → ℕ → Shape) (x y : Tree) (s t u u' d d' : Draft) (v w z : ℕ) → Laid names s t x v → Laid names t u y w → d ≡ u → d' ≡ u' →
     drafted d' ≡ push (drafted d) (f v w) → z ≡ top (drafted d') →
     (drafted u' ≡ push (lay names y (lay names x (drafted s))) (f (top (lay names x (drafted s))) (top (lay names y (lay names x (drafted s)))))) × (z ≡ top (drafted u'))
 laid-two names f x y s t u u' d d' v w z h k p q a n = (
@@ -56,7 +57,7 @@ laid-two names f x y s t u u' d d' v w z h k p q a n = (
   n ∙ ap (λ e. top (drafted e)) q,
 )
 
-pub joined : (names : List (List ℕ)) (j : Joint) (x y : Tree) (s t u u' d d' : Draft) (v w z : ℕ) → Laid names s t x v → Laid names t u y w → d ≡ u → d' ≡ u' →
+pub joined : (names : Vocabulary) (j : Joint) (x y : Tree) (s t u u' d d' : Draft) (v w z : ℕ) → Laid names s t x v → Laid names t u y w → d ≡ u → d' ≡ u' →
     drafted d' ≡ push (drafted d) (node_of j v w) → z ≡ top (drafted d') → Laid names s u' (levels.joined formula_rules j x y) z
 joined names joint.Or = laid-two names or_node
 joined names joint.And = laid-two names and_node
@@ -75,11 +76,11 @@ without_braces c before after l r h k =
 
 pub with_braces : (c k k' : Cursor) (before after : Draft) (l : Level) (inside : Bor (List Token)) (braces : Found ActionSet) (r : Option (Found Part)) → k ≡ moved c inside →
     k' ≡ moved c braces.rest → past_sign BraceOpen (ahead c) ≡ Some (unread inside) → length (ahead c) ≡ length (unread inside) + 1 → ChoosesBy k (λ r ts. in_braces ts) (Some braces) →
-    ((a : Acts) → IsSet (listed k'.labels.now) a braces.value → BuildsPart k' before after (λ r. after_braces (r (stage l)) a) r) →
+    ((a : Acts) → IsSet (vocabulary k'.names) a braces.value → BuildsPart k' before after (λ r. after_braces (r (stage l)) a) r) →
     BuildsPart c before after (λ r. part (r (stage l))) r
 with_braces c k k' before after l inside braces r p p' h i chosen follows =
     let d = subst (λ x. ChoosesBy x (λ r ts. in_braces ts) (Some braces)) p chosen in
-    let f = subst (λ x. (a : Acts) → IsSet (listed x.labels.now) a braces.value → BuildsPart x before after (λ r. after_braces (r (stage l)) a) r) p' follows in
+    let f = subst (λ x. (a : Acts) → IsSet (vocabulary x.names) a braces.value → BuildsPart x before after (λ r. after_braces (r (stage l)) a) r) p' follows in
     findings.led (λ names. LaidPart names before after) c (moved c braces.rest) braces.rest 3 3 (λ n. part (read formula_rules n (stage l)))
     (λ n. after_braces (read formula_rules n (stage l)) d.0) refl (omega (arith, i, d.3)) (omega arith)
     (λ n m.

@@ -1,11 +1,11 @@
 -- What is of the grammar is read.
 use Rattle.std.proofs.Common.{◌≡◌, ℕ, ◌+◌, ◌*◌, ◌<◌, ◌≤◌, true, cond, List, [], ◌∷◌, length, Some, None, refl, ap, ◌∙◌, arith}
 use Rattle.std.proofs.lemmas.Bool.{false≢true}
-use Rattle.formula.specs.declared.mark.Mark.{Mark}
-use Rattle.formula.specs.declared.mark.Mark.TheVariants.{True, False, Tau, Not, Short, Path, Between, Sign as signed}
-use Rattle.formula.specs.declared.mark.Sign.{Sign}
-use Rattle.formula.specs.declared.mark.Sign.TheVariants.{Open, Close, BracketOpen, BracketClose, BraceOpen, BraceClose, And, Or}
-use Rattle.formula.specs.Tokens.{Tok, mark, name}
+use Rattle.formula.specs.declared.symbol.Symbol.{Symbol}
+use Rattle.formula.specs.declared.symbol.Symbol.TheVariants.{True, False, Tau, Not, Short, Path, Between, Sign as signed}
+use Rattle.formula.specs.declared.symbol.Sign.{Sign}
+use Rattle.formula.specs.declared.symbol.Sign.TheVariants.{Open, Close, BracketOpen, BracketClose, BraceOpen, BraceClose, And, Or}
+use Rattle.formula.specs.Tokens.{Tok, symbol, name}
 use Rattle.formula.specs.Trees.{Acts, all, none, silent, named, complement, Tree, TRUE, FALSE, NOT, short, path}
 use Rattle.formula.specs.Grammar as grammar
 use Rattle.formula.specs.Grammar.{Level, or_level, and_level, tight, ActionFormula, Derives, Part, opens, begins_with, begins}
@@ -54,26 +54,26 @@ actions_in (grammar.ActionFormula.no_or {ts} {rest} {c} d) = λ s g m.
     stages.some action_rules joint.Or ts rest c g (actions_in d (Some (c, rest)) (stages.stop action_rules joint.And c rest s)) (actions_shorter d) m
 actions_in (grammar.ActionFormula.with_or {ts} {us} {rest} {c} {d} x y) = λ s g m.
     actions_in x refl g
-    (stages.one_more action_rules joint.Or c d (mark (signed Or) ∷ us) us rest g refl (actions_in y (Some (d, rest)) (stages.stop action_rules joint.And d rest s)) (actions_shorter y) m)
+    (stages.one_more action_rules joint.Or c d (symbol (signed Or) ∷ us) us rest g refl (actions_in y (Some (d, rest)) (stages.stop action_rules joint.And d rest s)) (actions_shorter y) m)
 actions_in (grammar.ActionFormula.no_and {ts} {rest} {c} d) = λ g m. stages.some action_rules joint.And ts rest c g (actions_in d) (actions_shorter d) m
 actions_in (grammar.ActionFormula.with_and {ts} {us} {rest} {c} {d} x y) = λ g m.
-    actions_in x g (stages.one_more action_rules joint.And c d (mark (signed And) ∷ us) us rest g refl (actions_in y) (actions_shorter y) m)
-actions_in (grammar.ActionFormula.true_word {rest}) = tight-by action_rules (mark True ∷ rest) (Some (all, rest)) (λ n h. refl)
-actions_in (grammar.ActionFormula.false_word {rest}) = tight-by action_rules (mark False ∷ rest) (Some (none, rest)) (λ n h. refl)
-actions_in (grammar.ActionFormula.tau_word {rest}) = tight-by action_rules (mark Tau ∷ rest) (Some (silent, rest)) (λ n h. refl)
+    actions_in x g (stages.one_more action_rules joint.And c d (symbol (signed And) ∷ us) us rest g refl (actions_in y) (actions_shorter y) m)
+actions_in (grammar.ActionFormula.true_word {rest}) = tight-by action_rules (symbol True ∷ rest) (Some (all, rest)) (λ n h. refl)
+actions_in (grammar.ActionFormula.false_word {rest}) = tight-by action_rules (symbol False ∷ rest) (Some (none, rest)) (λ n h. refl)
+actions_in (grammar.ActionFormula.tau_word {rest}) = tight-by action_rules (symbol Tau ∷ rest) (Some (silent, rest)) (λ n h. refl)
 actions_in (grammar.ActionFormula.by_name {w} {rest}) = tight-by action_rules (name w ∷ rest) (Some (named w, rest)) (λ n h. refl)
 actions_in (grammar.ActionFormula.negated {ts} {rest} {c} d) =
     let i = actions_in d in
-    tight-by action_rules (mark Not ∷ ts) (Some (complement c, rest)) (λ n h. ap (λ g. then g (λ x us. Some (complement x, us))) (i n (omega arith)))
+    tight-by action_rules (symbol Not ∷ ts) (Some (complement c, rest)) (λ n h. ap (λ g. then g (λ x us. Some (complement x, us))) (i n (omega arith)))
 actions_in (grammar.ActionFormula.grouped {ts} {rest} {c} d) =
-    let i = actions_in d refl (Some (c, mark (signed Close) ∷ rest)) (stages.stop action_rules joint.Or c (mark (signed Close) ∷ rest) refl) in
-    tight-by action_rules (mark (signed Open) ∷ ts) (Some (c, rest)) (λ n h. ap (λ g. then g (ended_by Close)) (i n (omega arith)))
+    let i = actions_in d refl (Some (c, symbol (signed Close) ∷ rest)) (stages.stop action_rules joint.Or c (symbol (signed Close) ∷ rest) refl) in
+    tight-by action_rules (symbol (signed Open) ∷ ts) (Some (c, rest)) (λ n h. ap (λ g. then g (ended_by Close)) (i n (omega arith)))
 
-braces_in : {ts rest : List Tok} {c : Acts} → ActionFormula or_level ts c (mark (signed BraceClose) ∷ rest) → in_braces ts ≡ Some (c, rest)
+braces_in : {ts rest : List Tok} {c : Acts} → ActionFormula or_level ts c (symbol (signed BraceClose) ∷ rest) → in_braces ts ≡ Some (c, rest)
 unfolding in_braces
 braces_in {ts} {rest} {c} d =
     ap (λ g. then g (ended_by BraceClose))
-    (actions_in d refl (Some (c, mark (signed BraceClose) ∷ rest)) (stages.stop action_rules joint.Or c (mark (signed BraceClose) ∷ rest) refl) (3 * length ts + 4) (omega arith))
+    (actions_in d refl (Some (c, symbol (signed BraceClose) ∷ rest)) (stages.stop action_rules joint.Or c (symbol (signed BraceClose) ∷ rest) refl) (3 * length ts + 4) (omega arith))
 
 -- how a formula begins
 formula-begins : {l : Level} {ts : List Tok} {t : Tree} {rest : List Tok} → Derives l ts t rest → begins ts ≡ true
@@ -88,7 +88,7 @@ formula-begins (grammar.Derives.grouped d) = refl
 formula-begins (grammar.Derives.one_part p) = refl
 formula-begins (grammar.Derives.two_parts p q) = refl
 
-no_brace_sign : (s : Sign) (ts : List Tok) → opens s ≡ true → past_sign BraceOpen (mark (signed s) ∷ ts) ≡ None
+no_brace_sign : (s : Sign) (ts : List Tok) → opens s ≡ true → past_sign BraceOpen (symbol (signed s) ∷ ts) ≡ None
 no_brace_sign Open ts e = refl
 no_brace_sign Close ts e = refl
 no_brace_sign BracketOpen ts e = refl
@@ -98,7 +98,7 @@ no_brace_sign BraceClose ts e = refl
 no_brace_sign And ts e = refl
 no_brace_sign Or ts e = refl
 
-no_brace_at : (m : Mark) (ts : List Tok) → begins_with m ≡ true → past_sign BraceOpen (mark m ∷ ts) ≡ None
+no_brace_at : (m : Symbol) (ts : List Tok) → begins_with m ≡ true → past_sign BraceOpen (symbol m ∷ ts) ≡ None
 no_brace_at (signed s) ts e = no_brace_sign s ts e
 no_brace_at True ts e = refl
 no_brace_at False ts e = refl
@@ -111,7 +111,7 @@ no_brace_at (Between l) ts e = refl
 no_brace : (ts : List Tok) → begins ts ≡ true → past_sign BraceOpen ts ≡ None
 no_brace [] e = refl
 no_brace (name w ∷ ts) e = refl
-no_brace (mark m ∷ ts) e = no_brace_at m ts e
+no_brace (symbol m ∷ ts) e = no_brace_at m ts e
 
 mutual
   formula_shorter : {l : Level} {ts : List Tok} {t : Tree} {rest : List Tok} → Derives l ts t rest → length rest ≤ length ts
@@ -147,26 +147,26 @@ mutual
   formula_in : {l : Level} {ts : List Tok} {t : Tree} {rest : List Tok} → Derives l ts t rest → In F l ts t rest
   formula_in (grammar.Derives.no_or {ts} {rest} {t} d) = λ s g m. stages.some F joint.Or ts rest t g (formula_in d (Some (t, rest)) (stages.stop F joint.And t rest s)) (formula_shorter d) m
   formula_in (grammar.Derives.with_or {ts} {us} {rest} {t} {u} x y) = λ s g m.
-      formula_in x refl g (stages.one_more F joint.Or t u (mark (signed Or) ∷ us) us rest g refl (formula_in y (Some (u, rest)) (stages.stop F joint.And u rest s)) (formula_shorter y) m)
+      formula_in x refl g (stages.one_more F joint.Or t u (symbol (signed Or) ∷ us) us rest g refl (formula_in y (Some (u, rest)) (stages.stop F joint.And u rest s)) (formula_shorter y) m)
   formula_in (grammar.Derives.no_and {ts} {rest} {t} d) = λ g m. stages.some F joint.And ts rest t g (formula_in d) (formula_shorter d) m
   formula_in (grammar.Derives.with_and {ts} {us} {rest} {t} {u} x y) = λ g m.
-      formula_in x g (stages.one_more F joint.And t u (mark (signed And) ∷ us) us rest g refl (formula_in y) (formula_shorter y) m)
-  formula_in (grammar.Derives.true_word {rest}) = tight-by F (mark True ∷ rest) (Some (TRUE, rest)) (λ n h. refl)
-  formula_in (grammar.Derives.false_word {rest}) = tight-by F (mark False ∷ rest) (Some (FALSE, rest)) (λ n h. refl)
+      formula_in x g (stages.one_more F joint.And t u (symbol (signed And) ∷ us) us rest g refl (formula_in y) (formula_shorter y) m)
+  formula_in (grammar.Derives.true_word {rest}) = tight-by F (symbol True ∷ rest) (Some (TRUE, rest)) (λ n h. refl)
+  formula_in (grammar.Derives.false_word {rest}) = tight-by F (symbol False ∷ rest) (Some (FALSE, rest)) (λ n h. refl)
   formula_in (grammar.Derives.negated {ts} {rest} {t} d) =
       let i = formula_in d in
-      tight-by F (mark Not ∷ ts) (Some (NOT t, rest)) (λ n h. ap (λ g. then g (λ x us. Some (NOT x, us))) (i n (omega arith)))
+      tight-by F (symbol Not ∷ ts) (Some (NOT t, rest)) (λ n h. ap (λ g. then g (λ x us. Some (NOT x, us))) (i n (omega arith)))
   formula_in (grammar.Derives.grouped {ts} {rest} {t} d) =
-      let i = formula_in d refl (Some (t, mark (signed Close) ∷ rest)) (stages.stop F joint.Or t (mark (signed Close) ∷ rest) refl) in
-      tight-by F (mark (signed Open) ∷ ts) (Some (t, rest)) (λ n h. ap (λ g. then g (ended_by Close)) (i n (omega arith)))
+      let i = formula_in d refl (Some (t, symbol (signed Close) ∷ rest)) (stages.stop F joint.Or t (symbol (signed Close) ∷ rest) refl) in
+      tight-by F (symbol (signed Open) ∷ ts) (Some (t, rest)) (λ n h. ap (λ g. then g (ended_by Close)) (i n (omega arith)))
   formula_in (grammar.Derives.one_part {o} {ts} {rest} {c} {t} p) =
       let i = part_in p tt in
-      tight-by F (mark (Short o) ∷ ts) (Some (short o c t, rest)) (λ n h. ap (λ g. then g (λ x us. Some (short o x.0 x.1, us))) (i n (omega arith)))
+      tight-by F (symbol (Short o) ∷ ts) (Some (short o c t, rest)) (λ n h. ap (λ g. then g (λ x us. Some (short o x.0 x.1, us))) (i n (omega arith)))
   formula_in (grammar.Derives.two_parts {q} {l} {ts} {us} {rest} {c} {d} {t} {u} x y) =
       let i = part_in x (refl, refl) in
       let j = part_in y (refl, refl) in
       let fewer = part_shorter x in
-      tight-by F (mark (Path q) ∷ mark (signed BracketOpen) ∷ ts) (Some (path q l c t d u, rest)) (λ n h.
+      tight-by F (symbol (Path q) ∷ symbol (signed BracketOpen) ∷ ts) (Some (path q l c t d u, rest)) (λ n h.
       ap (λ g. then g (λ p vs. then (link vs) (second_part (read F n OrLevel) q p))) (i n (omega arith))
       ∙ ap (λ g. then g (λ p vs. ended_by BracketClose (path q l c t p.0 p.1) vs)) (j n (omega arith)))
 
@@ -184,7 +184,7 @@ mutual
       λ s n h.
       ap (λ g. then g (after_braces (read F n (stage l)))) (braces_in a)
       ∙ ap (λ b. cond b (with_formula (read F n (stage l)) c us) (Some ((c, TRUE), us))) (formula-begins d)
-      ∙ formula-part l us (mark (signed BraceOpen) ∷ ts) c t rest i (omega (arith, actions_shorter a)) s n h
+      ∙ formula-part l us (symbol (signed BraceOpen) ∷ ts) c t rest i (omega (arith, actions_shorter a)) s n h
 
 pub tree_in : (ts : List Tok) (t : Tree) → Derives or_level ts t [] → tree_of ts ≡ Some t
 unfolding tree_of

@@ -1,25 +1,30 @@
 -- From the tokens of a text to what entering it answers.
-use Rattle.std.proofs.Common.{◌≡◌, ℕ, ◌+◌, ◌-◌, ◌*◌, ◌≤◌, Bool, true, false, cond, eqb, ltb, ◌⊎◌, List, [], ◌∷◌, ◌++◌, map, length, Some, None, Ok, Err, Option, Result, sym, refl, ap, ◌∙◌, subst, inl, inr, arith}
-use Rattle.std.proofs.lemmas.List.{length-append, length-map}
-use Rattle.std.proofs.lemmas.Bool.{cond-true, cond-false, lt-ltb, le-ltb, both_ways, eqb-true, false≢true}
-use Rattle.base.specs.declared.refusal.Refusal.{Refusal}
-use Rattle.base.specs.declared.refusal.Refusal.TheVariants.{Grammar, Full}
+use Rattle.std.proofs.Common.{◌≡◌, ℕ, suc, ◌+◌, ◌-◌, ◌*◌, ◌<◌, ◌≤◌, true, false, eqb, ◌⊎◌, List, [], ◌∷◌, ◌++◌, map, length, is_some, IsSome, IfSome, ◌↔◌, Some, None, Ok, Err, Option, Result, sym, refl, ap, ◌∙◌, subst, inl, inr, arith}
+use Rattle.std.proofs.lemmas.List.{length-map}
+use Rattle.std.proofs.lemmas.List.Elements.{All-contains}
+use Rattle.std.proofs.lemmas.List.Sums.{AllPass-from_list_all}
+use Rattle.std.proofs.lemmas.Bool.{cases_lt, eqb-true, false≢true}
 use Rattle.std.proofs.lemmas.Option.{same_Some}
-use Rattle.base.specs.Few.{held}
-use Rattle.base.proofs.Holding.{held-fits}
-use Rattle.formula.specs.declared.nodes.Entry.{Entry}
+use Rattle.std.specs.Option.{ok_or}
+use Rattle.base.specs.Listing.{action_of}
+use Rattle.base.specs.declared.refusal.Refusal.{Refusal}
+use Rattle.base.specs.declared.refusal.Refusal.TheVariants.{Grammar, Nameless, Full}
 use Rattle.formula.specs.declared.nodes.Nodes.{Nodes}
-use Rattle.formula.specs.Entering.{all_listed, fits, verdict, verdict_on, verdict_at, Whole, Written, Checked, Planned, Refused, Entered}
-use Rattle.formula.specs.Formulas.{size}
-use Rattle.formula.specs.Grammar.{Says}
-use Rattle.formula.specs.Laying.{Shape, shape, shapes, DraftState, top, lay, formula_at}
+use Rattle.formula.specs.Checking.{is_listed, all_listed, Whole, ChecksTokens, Checks}
+use Rattle.formula.specs.Entering.{AllListed, Unlisted, NoRoom, eight_formulas, too_many_nodes, OneMore, IsFormula, Unreadable, no_formula}
+use Rattle.formula.specs.Laying.{DraftState, lay}
+use Rattle.formula.specs.Nodes.{shapes, roots, root}
+use Rattle.formula.specs.Shapes.{Shape, shape, formula_at}
+use Rattle.formula.specs.Tables.{root_of, Extended}
 use Rattle.formula.specs.Reading.{Reads, OrLevel, formula_rules, whole_at, tree_of}
 use Rattle.formula.specs.declared.token.Token.{Token}
-use Rattle.formula.specs.Tokens.{Tok, tok, tokens_of}
+use Rattle.formula.specs.Tokens.{Tok, symbol, name, tok, tokens_of}
 use Rattle.formula.specs.Trees.{Tree}
+use Rattle.formula.specs.Vocabulary.{Vocabulary}
 use Rattle.formula.proofs.Complete.{tree_in}
-use Rattle.formula.proofs.Decoding.{Put, Over, laid, earlier}
+use Rattle.formula.proofs.Decoding.{Put, Over, laid, earlier, some_nodes}
 use Rattle.formula.proofs.Sound.{tree_out}
+use Rattle.formula.proofs.Standing.{within, root_kept, root_new}
 
 -- the tokens as a whole
 pub tree-none : (ts : List Tok) → Reads formula_rules OrLevel ts None → tree_of ts ≡ None
@@ -36,111 +41,122 @@ unfolding tree_of
 tree_some ts [] t a h = ap whole_at (a (3 * length ts + 4) (omega arith))
 tree_some ts (x ∷ rest) t a h = let k = eqb-true (length (x ∷ rest)) 0 (sym h) in absurd (omega (arith, k))
 
--- there are 48 nodes at most
+-- the names among the tokens
+module _ (v : Vocabulary) where
+  pub listed : (ts : List Tok) → true ≡ all_listed v ts → AllListed v ts
+  listed ts h w c = All-contains (λ x. is_listed v x ≡ true) ts (name w) (AllPass-from_list_all (is_listed v) ts (sym h)) c
+
+  past : (x : Tok) (ts : List Tok) → Unlisted v ts → Unlisted v (x ∷ ts)
+  past x ts u = (u.0, (suc u.1.0, omega (arith, u.1.1), u.1.2), u.2)
+
+  pub unlisted : (ts : List Tok) → false ≡ all_listed v ts → Unlisted v ts
+  unlisted [] h = absurd (false≢true h)
+  unlisted (symbol m ∷ ts) h = past (symbol m) ts (unlisted ts h)
+  unlisted (name w ∷ ts) h = at (action_of w v.labels) refl (unlisted ts)
+    where
+      at : (o : Option ℕ) → action_of w v.labels ≡ o → (false ≡ all_listed v ts → Unlisted v ts) → Unlisted v (name w ∷ ts)
+      at None e go = (w, (0, omega arith, refl), e)
+      at (Some a) e go =
+          let k : is_some (action_of w v.labels) ≡ true = ap is_some e in
+          past (name w) ts (go (let z : false ≡ all_listed v (name w ∷ ts) = h in rw k at z))
+
+-- there are 48 nodes and eight formulas at most
 pub few_shapes : (n : Nodes) → length (shapes n) ≤ 48
-few_shapes n = omega (arith, length-map (held n.nodes) shape, held-fits n.nodes)
+few_shapes n = omega (arith, length-map n.nodes shape, n.few)
 
--- the verdict, by how the nodes were laid
-module _ (names : List (List ℕ)) (ts : List Tok) (t : Tree) (xs : List Shape) (few : length xs ≤ 48) (known : true ≡ all_listed names ts) where
-  listed : verdict names (length xs) ts t ≡ cond (ltb 48 (length xs + size t)) (Err Full) (Ok (length xs + size t - 1))
-  listed = cond-true _ _ _ (sym known)
+pub few_roots : (n : Nodes) → length (roots n) ≤ 8
+few_roots n = n.few_roots
 
-  pub over : lay names t (Some xs) ≡ None → verdict names (length xs) ts t ≡ Err Full
-  over e = at (laid names t xs few)
+-- a root is a node
+pub root_within : (n : Nodes) (f : ℕ) → f < length (roots n) → root n f < length (shapes n)
+root_within n f h = within (roots n) (shapes n) n.ascending n.ends f h
+
+-- a tree that was laid past a table's nodes
+module _ (v : Vocabulary) (t : Tree) (n : Nodes) where
+  pub no_room : lay v t (Some (shapes n)) ≡ None → NoRoom n t
+  no_room e = at (laid v t (shapes n) (few_shapes n))
     where
-      at : Put names t xs ⊎ Over names t xs → verdict names (length xs) ts t ≡ Err Full
-      at (inl p) = let z : ◌≡◌ {A = ℕ} 0 1 = (let q = sym e ∙ p.is in cc) in absurd (omega arith)
-      at (inr o) = listed ∙ cond-true _ _ _ (lt-ltb 48 (length xs + size t) o.no_room)
+      at : Put v t (shapes n) ⊎ Over v t (shapes n) → NoRoom n t
+      at (inl p) = let q = sym e ∙ p.is in cc
+      at (inr o) = too_many_nodes o.no_room
 
-  pub within : (ys : List Shape) (root : ℕ) → lay names t (Some xs) ≡ Some ys → root ≡ length ys - 1 → (verdict names (length xs) ts t ≡ Ok root) × Written names t xs ys root
-  within ys root e r = at (laid names t xs few)
-    where
-      at : Put names t xs ⊎ Over names t xs → (verdict names (length xs) ts t ≡ Ok root) × Written names t xs ys root
-      at (inr o) = let z : ◌≡◌ {A = ℕ} 0 1 = (let q = sym o.is ∙ e in cc) in absurd (omega arith)
-      at (inl p) =
-          let g : ys ≡ xs ++ p.new = same_Some _ _ (sym e ∙ p.is) in
-          let n : length ys ≡ length xs + size t = ap length g ∙ length-append xs p.new ∙ ap (λ k. length xs + k) p.long in
-          let k : length xs + size t - 1 ≡ root = omega arith in (
-            listed ∙ cond-false _ _ _ (le-ltb 48 (length xs + size t) p.room) ∙ ap Ok k,
-            record {
-              new = p.new;
-              grown = g;
-              long = p.long;
-              decodes = ap (λ j. formula_at ys j) r ∙ ap (λ zs. formula_at zs (length zs - 1)) g ∙ p.root;
-            },
-          )
+  module _ (ys : List Shape) (is : lay v t (Some (shapes n)) ≡ Some ys) where
+    put : Put v t (shapes n)
+    put = at (laid v t (shapes n) (few_shapes n))
+      where
+        at : Put v t (shapes n) ⊎ Over v t (shapes n) → Put v t (shapes n)
+        at (inl p) = p
+        at (inr o) = let q = sym is ∙ o.is in cc
 
--- the tokens that are a formula whose names the list has, by the nodes that were written
-module _ (names : List (List ℕ)) (ts : List Tok) (n : Nodes) (known : true ≡ all_listed names ts) where
-  module _ (before after : DraftState) (r : Option ℕ) (root : ℕ) (over_them : before ≡ Some (shapes n)) (found : r ≡ Some root) (laid : Whole names ts before after r) where
-    whole : Whole names ts (Some (shapes n)) after (Some root)
-    whole = subst (λ b. Whole names ts b after (Some root)) over_them (subst (Whole names ts before after) found laid)
+    grown : ys ≡ shapes n ++ put.new
+    grown = same_Some _ _ (sym is ∙ put.is)
 
-    pub full : after ≡ None → verdict_on names (length (shapes n)) ts (tree_of ts) ≡ Err Full
-    full e = ap (verdict_on names (length (shapes n)) ts) whole.1 ∙ over names ts whole.0 (shapes n) (few_shapes n) known (sym whole.2 ∙ e)
-
-    pub checked : (m : Nodes) → after ≡ Some (shapes m) → Checked names ts (shapes n) (record { nodes = m; root = root })
-    checked m e =
-        let k = within names ts whole.0 (shapes n) (few_shapes n) known (shapes m) root (sym whole.2 ∙ e) (whole.3 ∙ ap top e) in
-        record { tree = whole.0; is = whole.1; answer = k.0; written = k.1 }
-
--- the text
-says : (text : List ℕ) (ts : List Tok) (t : Tree) → tokens_of text ≡ Some ts → tree_of ts ≡ Some t → Says text t
-says text ts t l e = record { tokens = ts; lexed = l; whole = tree_out ts t e }
-
-answered : (names : List (List ℕ)) (n : ℕ) (text : List ℕ) (t : Tree) (d : Says text t) → verdict_at names n (tokens_of text) ≡ verdict names n d.tokens t
-answered names n text t d = ap (verdict_at names n) d.lexed ∙ ap (verdict_on names n d.tokens) (tree_in d.tokens t d.whole)
-
-unread_text : (names : List (List ℕ)) (n : ℕ) (text : List ℕ) → ((t : Tree) → Says text t → ⊥) → verdict_at names n (tokens_of text) ≡ Err Grammar
-unread_text names n text none-says = at (tokens_of text) refl
-  where
-    on : (ts : List Tok) → tokens_of text ≡ Some ts → (o : Option Tree) → tree_of ts ≡ o → verdict_on names n ts o ≡ Err Grammar
-    on ts l None e = refl
-    on ts l (Some t) e = absurd (none-says t (says text ts t l e))
-
-    at : (o : Option (List Tok)) → tokens_of text ≡ o → verdict_at names n o ≡ Err Grammar
-    at None e = refl
-    at (Some ts) e = on ts e (tree_of ts) refl
-
-apart : {A B : Type 0} (C : Type 0) {x : A} {y : B} → ◌≡◌ {A = Result A B} (Ok x) (Err y) → C
-apart C e = let z : ◌≡◌ {A = ℕ} 0 1 = cc in absurd (omega arith)
-
-module _ (text : List ℕ) (names : List (List ℕ)) (before : Nodes) where
-  abbrev xs : List Shape
-  xs = shapes before
-
-  pub refused : (e : Refusal) → Refused names text (length xs) e → Entered text names before before (Err e)
-  refused e k = record {
-    oversized = λ h. sym k.why ∙ cond-false _ _ _ h;
-    unformed = λ f. sym k.why ∙ at (fits text) f;
-    formed = λ h t d. sym k.why ∙ cond-true _ _ _ h ∙ answered names (length xs) text t d;
-    written = λ root h. apart _ (sym h);
-    earlier = λ i h. refl;
-    unaltered = λ d h. refl;
-  }
-    where
-      at : (b : Bool) → ((t : Tree) → Says text t → ⊥) → cond b (verdict_at names (length xs) (tokens_of text)) (Err Grammar) ≡ Err Grammar
-      at true none-says = unread_text names (length xs) text none-says
-      at false none-says = refl
-
-  module _ (entry : Entry) (k : Planned names text xs entry) where
-    said : Says text k.checked.tree
-    said = says text k.tokens k.checked.tree k.lexed k.checked.is
-
-    one : (t : Tree) → Says text t → k.checked.tree ≡ t
-    one t d =
-        let e : k.tokens ≡ d.tokens = same_Some _ _ (sym k.lexed ∙ d.lexed) in
-        same_Some _ _ (sym k.checked.is ∙ ap tree_of e ∙ tree_in d.tokens t d.whole)
-
-    pub accepted : Entered text names before entry.nodes (Ok entry.root)
-    accepted = record {
-      oversized = λ h. absurd (both_ways (fits text) h k.right_size);
-      unformed = λ f. absurd (f k.checked.tree said);
-      formed = λ h t d. sym k.checked.answer ∙ ap (λ ts. verdict names (length xs) ts k.checked.tree) (same_Some _ _ (sym k.lexed ∙ d.lexed)) ∙ ap (verdict names (length xs) d.tokens) (one t d);
-      written = λ root h t d.
-          let r : entry.root ≡ root = cc in
-          subst (λ u. Written names u xs (shapes entry.nodes) root) (one t d)
-          (subst (Written names k.checked.tree xs (shapes entry.nodes)) r k.checked.written);
-      earlier = λ i h. ap (λ ys. formula_at ys i) k.checked.written.grown ∙ earlier xs k.checked.written.new i h;
-      unaltered = λ d h. apart _ h;
+    pub extended : Extended (shapes n) ys
+    extended = record {
+      new = put.new;
+      grown = grown;
+      some = omega (arith, put.long, some_nodes t);
+      own = rw grown put.own;
     }
+
+    pub one_more : (m : Nodes) → shapes m ≡ ys → roots m ≡ roots n ++ (length (shapes m) - 1) ∷ [] → OneMore v t n m (length (roots n))
+    one_more m e r = record {
+      number = refl;
+      new = put.new;
+      nodes_are = e ∙ grown;
+      long = put.long;
+      roots_are = r;
+      decodes =
+          ap (formula_at (shapes m)) (ap (λ rs. root_of rs (length (roots n))) r ∙ root_new (roots n) (length (shapes m) - 1))
+          ∙ ap (λ xs. formula_at xs (length xs - 1)) (e ∙ grown)
+          ∙ put.root;
+      earlier = λ g l.
+          ap (formula_at (shapes m)) (ap (λ rs. root_of rs g) r ∙ root_kept (roots n) (length (shapes m) - 1) g l)
+          ∙ ap (λ xs. formula_at xs (root n g)) (e ∙ grown)
+          ∙ earlier (shapes n) put.new (root n g) (root_within n g l);
+    }
+
+    -- with room for its formula, or without
+    module _ (ts : List Tok) (whole : tree_of ts ≡ Some t) (names_listed : AllListed v ts) where
+      pub checked : (o : Option Nodes) → (IsSome o ↔ (length (roots n) < 8)) → IfSome o (λ m. shapes m ≡ ys)
+          → IfSome o (λ m. roots m ≡ roots n ++ (length (shapes m) - 1) ∷ []) → ChecksTokens v ts n (ok_or o Full)
+      checked None k a b = (t, whole, names_listed, eight_formulas (at (cases_lt (length (roots n)) 8)))
+        where
+          at : (length (roots n) < 8) ⊎ (8 ≤ length (roots n)) → length (roots n) ≡ 8
+          at (inl l) = absurd (false≢true (k.1 l))
+          at (inr l) = omega (arith, few_roots n)
+      checked (Some m) k a b = (t, whole, names_listed, one_more m a b)
+
+-- the tree that was laid
+pub tree_laid : (v : Vocabulary) (ts : List Tok) (n : Nodes) (before after : DraftState) (r : Option (Unit {0})) (u : Unit {0})
+    → before ≡ Some (shapes n) → r ≡ Some u → Whole v ts before after r
+    → (t : Tree) × (tree_of ts ≡ Some t) × (lay v t (Some (shapes n)) ≡ after)
+tree_laid v ts n before after r u over found w =
+    let k : Whole v ts before after (Some u) = subst (Whole v ts before after) found w in
+    (k.0, k.1, sym (k.2 ∙ ap (lay v k.0) over))
+
+-- a text, by its tokens
+module _ (text : List ℕ) (ts : List Tok) (lexed : tokens_of text ≡ Some ts) where
+  abbrev pub is_formula : (t : Tree) → 1 ≤ length text → length text ≤ 1024 → tree_of ts ≡ Some t → IsFormula text t
+  is_formula t s f e = record { some = s; few = f; parses = record { tokens = ts; lexed = lexed; whole = tree_out ts t e } }
+
+  pub none_says : tree_of ts ≡ None → Unreadable text
+  none_says e =
+      no_formula (λ t d.
+      let same : d.tokens ≡ ts = same_Some _ _ (sym d.lexed ∙ lexed) in
+      let q : Some t ≡ None = sym (tree_in d.tokens t d.whole) ∙ ap tree_of same ∙ e in
+      cc)
+
+  -- the table that the tokens make
+  module _ (v : Vocabulary) (n : Nodes) (s : 1 ≤ length text) (f : length text ≤ 1024) where
+    pub from_tokens : (r : Result Nodes Refusal) → ChecksTokens v ts n r → Checks text v n r
+    from_tokens (Ok m) k = record { tree = k.0; is = is_formula k.0 s f k.1; listed = k.2; next = k.3 }
+    from_tokens (Err Grammar) k = none_says k
+    from_tokens (Err Nameless) k = (k.0, is_formula k.0 s f k.1, k.2)
+    from_tokens (Err Full) k = (k.0, is_formula k.0 s f k.1, k.2, k.3)
+    from_tokens (Err e) k = absurd k
+
+-- a text that is not empty
+pub not_empty : (text : List ℕ) → false ≡ eqb (length text) 0 → 1 ≤ length text
+not_empty [] h = absurd (false≢true h)
+not_empty (b ∷ text) h = omega arith

@@ -1,12 +1,11 @@
 -- What a function of the reader finds, from what the functions that it calls find.
 use Rattle.std.proofs.Common.{◌≡◌, ℕ, ◌+◌, ◌*◌, ◌<◌, ◌≤◌, List, ◌∷◌, length, Some, None, Option, sym, ap, ◌∙◌, subst, arith}
 use Rattle.std.specs.Borrow.{Bor}
-use Rattle.base.specs.Labels.{listed}
 use Rattle.formula.specs.declared.built.Found.{Found}
 use Rattle.formula.specs.declared.built.Joint.{Joint}
 use Rattle.formula.specs.declared.built.Level.TheVariants as level
 use Rattle.formula.specs.declared.cursor.Cursor.{Cursor}
-use Rattle.formula.specs.declared.mark.Sign.{Sign}
+use Rattle.formula.specs.declared.symbol.Sign.{Sign}
 use Rattle.formula.specs.declared.token.Token.{Token}
 use Rattle.formula.specs.Chaining.{More, ends, breaks, goes_on, Chain, fails, begins}
 use Rattle.formula.specs.Tokens.{Tok}
@@ -14,6 +13,7 @@ use Rattle.formula.specs.Places.{unread, ahead, moved, Past}
 use Rattle.formula.specs.Finding.{Settles, Finds}
 use Rattle.formula.specs.Levels.{sign_of, operand, stage, joined}
 use Rattle.formula.specs.Reading.{past_sign, Got, Stage, Tight, Rules, read, rank, Reads}
+use Rattle.formula.specs.Vocabulary.{Vocabulary, vocabulary}
 use Rattle.formula.proofs.Stages.{more, none, some, stop, no_more, one_more, tight-by, past_shorter}
 
 -- a chain, from its operands
@@ -63,9 +63,9 @@ pub past_there : (c k : Cursor) (rest : Bor (List Token)) (s : Sign) (r : Option
     Past (unread rest) (past_sign s (unread rest)) r
 past_there c k rest s r e p = subst (λ x. Past (ahead x) (past_sign s (ahead x)) r) e p
 
-module _ {X V : Type 0} (Stands : List (List ℕ) → X → V → Type 0) where
+module _ {X V : Type 0} (Stands : Vocabulary → X → V → Type 0) where
   abbrev pub Finds_at : Cursor → ℕ → (ℕ → List Tok → Got X) → Option (Found V) → Type 0
-  Finds_at c b F r = Finds (Stands (listed c.labels.now)) c b F r
+  Finds_at c b F r = Finds (Stands (vocabulary c.names)) c b F r
 
   -- nothing was found, where a `?` returns
   pub none_found : (c : Cursor) (b : ℕ) (F : ℕ → List Tok → Got X) (r : Option (Found V)) → r ≡ None → Settles b (ahead c) F None → Finds_at c b F r

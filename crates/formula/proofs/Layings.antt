@@ -1,17 +1,19 @@
 -- A node written after those of the formulas below it is laid as its tree is.
-use Rattle.std.proofs.Common.{◌≡◌, ℕ, List, ap, ◌∙◌}
+use Rattle.std.proofs.Common.{◌≡◌, ℕ, ap, ◌∙◌}
 use Rattle.base.specs.declared.action_set.ActionSet.{ActionSet}
-use Rattle.formula.specs.declared.mark.Operator.{Operator}
-use Rattle.formula.specs.declared.mark.Quantifier.{Quantifier}
-use Rattle.formula.specs.declared.mark.Link.{Link}
+use Rattle.formula.specs.declared.symbol.Operator.{Operator}
+use Rattle.formula.specs.declared.symbol.Quantifier.{Quantifier}
+use Rattle.formula.specs.declared.symbol.Link.{Link}
 use Rattle.formula.specs.Choosing.{set_of, IsSet}
-use Rattle.formula.specs.Laying.{DraftState, Shape, short_node, path_node, push, top, lay}
+use Rattle.formula.specs.Laying.{DraftState, push, top, lay}
+use Rattle.formula.specs.Shapes.{Shape, short_node, path_node}
 use Rattle.base.specs.Sets.{holds}
 use Rattle.formula.specs.Trees.{Acts, Tree, short, path}
+use Rattle.formula.specs.Vocabulary.{Vocabulary}
 
-module _ (names : List (List ℕ)) where
+module _ (names : Vocabulary) where
   -- sets with the same members
-  same_set : (c : Acts) (a : ActionSet) → IsSet names c a → holds a ≡ set_of names c
+  same_set : (c : Acts) (a : ActionSet) → IsSet names c a → holds a ≡ set_of names.labels c
   same_set c a h = λ i k. h k i
 
   pub one_below : (f : ℕ → Shape) (t : Tree) (s s₁ s₂ : DraftState) (k : ℕ) → s₁ ≡ lay names t s → k ≡ top s₁ → s₂ ≡ push s₁ (f k) →
@@ -26,10 +28,10 @@ module _ (names : List (List ℕ)) where
 
   pub laid-short : (o : Operator) (c : Acts) (t : Tree) (a : ActionSet) (s s₁ s₂ : DraftState) (k : ℕ) → IsSet names c a → s₁ ≡ lay names t s → k ≡ top s₁ →
       s₂ ≡ push s₁ (short_node o (holds a) k) → s₂ ≡ lay names (short o c t) s
-  laid-short o c t a s s₁ s₂ k h p q e = one_below (short_node o (set_of names c)) t s s₁ s₂ k p q (e ∙ ap (λ x. push s₁ (short_node o x k)) (same_set c a h))
+  laid-short o c t a s s₁ s₂ k h p q e = one_below (short_node o (set_of names.labels c)) t s s₁ s₂ k p q (e ∙ ap (λ x. push s₁ (short_node o x k)) (same_set c a h))
 
   pub laid-path : (q : Quantifier) (l : Link) (c d : Acts) (t u : Tree) (a b : ActionSet) (s s₁ s₂ s₃ : DraftState) (k m : ℕ) → IsSet names c a → IsSet names d b →
       s₁ ≡ lay names t s → k ≡ top s₁ → s₂ ≡ lay names u s₁ → m ≡ top s₂ → s₃ ≡ push s₂ (path_node q l (holds a) k (holds b) m) → s₃ ≡ lay names (path q l c t d u) s
   laid-path q l c d t u a b s s₁ s₂ s₃ k m g h p x y z e =
-      two_below (λ i j. path_node q l (set_of names c) i (set_of names d) j) t u s s₁ s₂ s₃ k m p x y z
-      (e ∙ ap (λ w. push s₂ (path_node q l w k (holds b) m)) (same_set c a g) ∙ ap (λ w. push s₂ (path_node q l (set_of names c) k w m)) (same_set d b h))
+      two_below (λ i j. path_node q l (set_of names.labels c) i (set_of names.labels d) j) t u s s₁ s₂ s₃ k m p x y z
+      (e ∙ ap (λ w. push s₂ (path_node q l w k (holds b) m)) (same_set c a g) ∙ ap (λ w. push s₂ (path_node q l (set_of names.labels c) k w m)) (same_set d b h))

@@ -1,14 +1,15 @@
 mod Buildings
 mod Choices
 mod Complete
-mod Decoding
-mod Entries
+pub mod Decoding
+pub mod Entries
 mod Findings
 mod Layings
 mod Lexing
+mod LongestRuns
 mod Measures
-mod Readings
+pub mod Readings
 mod Runs
 mod Sound
 mod Stages
-mod LongestRuns
+pub mod Standing

@@ -7,10 +7,10 @@ use Rattle.std.proofs.lemmas.List.Sums.{take_while-cons}
 use Rattle.std.proofs.lemmas.Option.{none-some, same_Some}
 use Rattle.std.proofs.lemmas.Bool.{both_ways, cases_Bool, not-true, and_parts, and_from, eqb-true, ne_eqb, leb-true, lt-leb, cond-true, cond-false}
 use Rattle.base.specs.Names.{letter, name_byte, name_bytes, is_name}
-use Rattle.formula.specs.declared.mark.Mark.{Mark}
-use Rattle.formula.specs.declared.mark.Mark.TheVariants.{Sign as signed}
-use Rattle.formula.specs.declared.mark.Sign.{Sign}
-use Rattle.formula.specs.Tokens.{Tok, mark, name, sign, word, capital, past, Front, broken, found, found_mark, word_at, name_at, token_at, front, onward, tokens_in}
+use Rattle.formula.specs.declared.symbol.Symbol.{Symbol}
+use Rattle.formula.specs.declared.symbol.Symbol.TheVariants.{Sign as signed}
+use Rattle.formula.specs.declared.symbol.Sign.{Sign}
+use Rattle.formula.specs.Tokens.{Tok, symbol, name, sign, word, capital, past, Front, broken, found, found_symbol, word_at, name_at, token_at, front, onward, tokens_in}
 use Rattle.formula.specs.Lexes.{stops, Lexes, done, space, a_sign, a_word, a_name, LongestRuns}
 
 -- a run and what follows it
@@ -100,11 +100,11 @@ module _ (n : ℕ) (more : (text : List ℕ) (ts : List Tok) → tokens_in n tex
       subst (Lexes text) (same_Some (t ∷ us) ts z) (put us (more rest us k))
 
   module _ (bs : List ℕ) (ts : List Tok) where
-    as_word : (o : Option Mark) → word (take_while capital bs) ≡ o → onward (found_mark o (past capital bs) broken) (tokens_in n) ≡ Some ts → Lexes bs ts
+    as_word : (o : Option Symbol) → word (take_while capital bs) ≡ o → onward (found_symbol o (past capital bs) broken) (tokens_in n) ≡ Some ts → Lexes bs ts
     as_word None k e = absurd (none-some ts e)
     as_word (Some m) k e =
-        next-found (mark m) (past capital bs) bs ts
-        (λ us d. subst (λ (x : List ℕ). Lexes x (mark m ∷ us)) (split capital bs)
+        next-found (symbol m) (past capital bs) bs ts
+        (λ us d. subst (λ (x : List ℕ). Lexes x (symbol m ∷ us)) (split capital bs)
         (a_word (take_while capital bs) (past capital bs) (run_passes capital bs) (past-stops capital bs) k d)) e
 
     as_name : (x : Bool) → is_name (take_while name_byte bs) ≡ x
@@ -120,9 +120,9 @@ module _ (n : ℕ) (more : (text : List ℕ) (ts : List Tok) → tokens_in n tex
     by_case false e = as_name (is_name (take_while name_byte bs)) refl e
 
   as_sign : (b : ℕ) (bs : List ℕ) (ts : List Tok) (o : Option Sign) → sign b ≡ o
-      → onward (found_mark (option_map signed o) bs (cond (capital b) (word_at (b ∷ bs)) (name_at (b ∷ bs)))) (tokens_in n) ≡ Some ts → Lexes (b ∷ bs) ts
+      → onward (found_symbol (option_map signed o) bs (cond (capital b) (word_at (b ∷ bs)) (name_at (b ∷ bs)))) (tokens_in n) ≡ Some ts → Lexes (b ∷ bs) ts
   as_sign b bs ts None k e = by_case (b ∷ bs) ts (capital b) e
-  as_sign b bs ts (Some s) k e = next-found (mark (signed s)) bs (b ∷ bs) ts (λ us d. a_sign k d) e
+  as_sign b bs ts (Some s) k e = next-found (symbol (signed s)) bs (b ∷ bs) ts (λ us d. a_sign k d) e
 
   at_front : (text : List ℕ) (ts : List Tok) → onward (front text) (tokens_in n) ≡ Some ts → Lexes text ts
   at_front [] ts e = subst (Lexes []) (same_Some [] ts e) done
@@ -150,7 +150,7 @@ module _ (n : ℕ) (b : ℕ) (bs rest : List ℕ) (t : Tok) (ts : List Tok) wher
   onward-found f e = ap (λ (x : Front). onward x (tokens_in n)) f ∙ ap (option_map (λ (us : List Tok). t ∷ us)) e
 
 abbrev found_sign : ℕ → List ℕ → Option Sign → Front
-found_sign b bs o = found_mark (option_map signed o) bs (cond (capital b) (word_at (b ∷ bs)) (name_at (b ∷ bs)))
+found_sign b bs o = found_symbol (option_map signed o) bs (cond (capital b) (word_at (b ∷ bs)) (name_at (b ∷ bs)))
 
 complete : {text : List ℕ} {ts : List Tok} → Lexes text ts → (n : ℕ) → length text < n → tokens_in n text ≡ Some ts
 complete done zero l = absurd (omega arith)
@@ -159,7 +159,7 @@ complete (space d) zero l = absurd (omega arith)
 complete (space {rest = rest} d) (suc n) l = complete d (suc n) (omega arith)
 complete (a_sign e d) zero l = absurd (omega arith)
 complete (a_sign {c = c} {s = s} {rest = rest} {ts = ts} e d) (suc n) l =
-    onward-found n c rest rest (mark (signed s)) ts
+    onward-found n c rest rest (symbol (signed s)) ts
     (cond-false (eqb c 32) (front rest) (token_at (c ∷ rest)) (not_space c s e) ∙ ap (found_sign c rest) e)
     (complete d n (omega arith))
 complete (a_word w rest h s k d) zero l = absurd (omega arith)
@@ -167,12 +167,12 @@ complete (a_word [] rest {m = m} h s k d) (suc n) l = absurd (none-some m k)
 complete (a_word (b ∷ w) rest {m = m} {ts = ts} h s k d) (suc n) l =
     let c = and_parts (capital b) (list_all capital w) h in
     let whole : word (take_while capital (b ∷ (w ++ rest))) ≡ Some m = ap word (run_of capital (b ∷ w) rest h s) ∙ k in
-    onward-found n b (w ++ rest) rest (mark m) ts
+    onward-found n b (w ++ rest) rest (symbol m) ts
     (cond-false (eqb b 32) (front (w ++ rest)) (token_at (b ∷ (w ++ rest))) (capital_no_space b c.0)
     ∙ ap (found_sign b (w ++ rest)) (capital_no_sign b c.0)
     ∙ cond-true (capital b) (word_at (b ∷ (w ++ rest))) (name_at (b ∷ (w ++ rest))) c.0
-    ∙ ap (λ (o : Option Mark). found_mark o (past capital (b ∷ (w ++ rest))) broken) whole
-    ∙ ap (λ (x : List ℕ). found (mark m) x) (past_of capital (b ∷ w) rest h s))
+    ∙ ap (λ (o : Option Symbol). found_symbol o (past capital (b ∷ (w ++ rest))) broken) whole
+    ∙ ap (λ (x : List ℕ). found (symbol m) x) (past_of capital (b ∷ w) rest h s))
     (complete d n (omega (arith, length-append w rest)))
 complete (a_name w rest h s d) zero l = absurd (omega arith)
 complete (a_name [] rest h s d) (suc n) l = absurd (both_ways _ refl h)

@@ -3,9 +3,9 @@ use Rattle.std.proofs.Common.{◌≡◌, ℕ, suc, ◌+◌, ◌<◌, Bool, true,
 use Rattle.std.specs.List.{prefix_len}
 use Rattle.std.specs.Option.{option_map}
 use Rattle.base.specs.Names.{name_byte, is_name}
-use Rattle.formula.specs.declared.mark.Mark.{Mark}
-use Rattle.formula.specs.declared.mark.Mark.TheVariants.{Sign as signed}
-use Rattle.formula.specs.Tokens.{capital, past, sign, word, Front, ended, broken, found, name, found_mark, word_at, name_at, token_at, front}
+use Rattle.formula.specs.declared.symbol.Symbol.{Symbol}
+use Rattle.formula.specs.declared.symbol.Symbol.TheVariants.{Sign as signed}
+use Rattle.formula.specs.Tokens.{capital, past, sign, word, Front, ended, broken, found, name, found_symbol, word_at, name_at, token_at, front}
 
 -- what follows spaces
 pub past_spaces : (bs : List ℕ) → front bs ≡ token_at (past (λ b. eqb b 32) bs)
@@ -23,7 +23,7 @@ Within n ended = Unit {0}
 Within n broken = Unit {0}
 Within n (found t rest) = length rest < n
 
-mark_within : (n : ℕ) (o : Option Mark) (rest : List ℕ) (f : Front) → length rest < n → Within n f → Within n (found_mark o rest f)
+mark_within : (n : ℕ) (o : Option Symbol) (rest : List ℕ) (f : Front) → length rest < n → Within n f → Within n (found_symbol o rest f)
 mark_within n None rest f h k = k
 mark_within n (Some m) rest f h k = h
 
@@ -33,7 +33,7 @@ shorter b bs n = omega (arith, length-drop (1 + n) (b ∷ bs))
 word_within : (b : ℕ) (bs : List ℕ) → Within (length (b ∷ bs)) (word_at (b ∷ bs))
 word_within b bs =
     let n = prefix_len capital bs in
-    elim (capital b) as (λ x. let k = cond x (1 + prefix_len capital bs) 0 in Within (length (b ∷ bs)) (found_mark (word (take k (b ∷ bs))) (drop k (b ∷ bs)) broken)) [
+    elim (capital b) as (λ x. let k = cond x (1 + prefix_len capital bs) 0 in Within (length (b ∷ bs)) (found_symbol (word (take k (b ∷ bs))) (drop k (b ∷ bs)) broken)) [
       | true ↦ mark_within _ (word (take (1 + n) (b ∷ bs))) (drop (1 + n) (b ∷ bs)) broken (shorter b bs n) tt
       | false ↦ tt
     ]

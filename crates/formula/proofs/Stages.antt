@@ -2,15 +2,15 @@
 use Rattle.std.proofs.Common.{◌≡◌, ℕ, zero, suc, ◌+◌, ◌*◌, ◌<◌, ◌≤◌, true, cond, eqb, List, [], ◌∷◌, length, Some, None, Option, sym, refl, ap, ◌∙◌, arith}
 use Rattle.std.proofs.lemmas.Option.{cond_some, none-some}
 use Rattle.std.proofs.lemmas.Bool.{eqb-true, false≢true}
-use Rattle.formula.specs.declared.mark.Mark.{Mark}
-use Rattle.formula.specs.declared.mark.Mark.TheVariants.{True, False, Tau, Not, Short, Path, Between, Sign as signed}
-use Rattle.formula.specs.declared.mark.Sign.{Sign}
-use Rattle.formula.specs.declared.mark.Sign.TheVariants.{Open, Close, BracketOpen, BracketClose, BraceOpen, BraceClose, And, Or}
+use Rattle.formula.specs.declared.symbol.Symbol.{Symbol}
+use Rattle.formula.specs.declared.symbol.Symbol.TheVariants.{True, False, Tau, Not, Short, Path, Between, Sign as signed}
+use Rattle.formula.specs.declared.symbol.Sign.{Sign}
+use Rattle.formula.specs.declared.symbol.Sign.TheVariants.{Open, Close, BracketOpen, BracketClose, BraceOpen, BraceClose, And, Or}
 use Rattle.formula.specs.declared.built.Joint.{Joint}
 use Rattle.formula.specs.declared.built.Joint.TheVariants as joint
 use Rattle.formula.specs.declared.built.Level.TheVariants as level
 use Rattle.formula.specs.Levels.{sign_of, operand, stage, joined}
-use Rattle.formula.specs.Tokens.{Tok, mark, name}
+use Rattle.formula.specs.Tokens.{Tok, symbol, name}
 use Rattle.formula.specs.Reading.{code, is, past_sign, if_there, Got, then, Stage, OrLevel, OrMore, AndLevel, AndMore, Tight, Rules, read, rank, Reads}
 
 pub no_way : {A : Type 0} (B : Type 0) {x : A} → ◌≡◌ {A = Option A} None (Some x) → B
@@ -37,7 +37,7 @@ decoded BraceClose = refl
 decoded And = refl
 decoded Or = refl
 
-is_out : (s : Sign) (m : Mark) → is s m ≡ true → m ≡ signed s
+is_out : (s : Sign) (m : Symbol) → is s m ≡ true → m ≡ signed s
 is_out s (signed t) e = ap signed (sym (decoded t) ∙ ap decode (eqb-true (code t) (code s) e) ∙ decoded s)
 is_out s True e = absurd (false≢true e)
 is_out s False e = absurd (false≢true e)
@@ -47,10 +47,10 @@ is_out s (Short o) e = absurd (false≢true e)
 is_out s (Path q) e = absurd (false≢true e)
 is_out s (Between l) e = absurd (false≢true e)
 
-pub past_sign_out : (s : Sign) (ts rest : List Tok) → past_sign s ts ≡ Some rest → ts ≡ mark (signed s) ∷ rest
+pub past_sign_out : (s : Sign) (ts rest : List Tok) → past_sign s ts ≡ Some rest → ts ≡ symbol (signed s) ∷ rest
 past_sign_out s [] rest e = no_way _ e
 past_sign_out s (name w ∷ ts) rest e = no_way _ e
-past_sign_out s (mark m ∷ ts) rest e = let h = cond_some (is s m) ts rest e in ap (λ x. mark x ∷ ts) (is_out s m h.0) ∙ ap (λ x. mark (signed s) ∷ x) h.1
+past_sign_out s (symbol m ∷ ts) rest e = let h = cond_some (is s m) ts rest e in ap (λ x. symbol x ∷ ts) (is_out s m h.0) ∙ ap (λ x. symbol (signed s) ∷ x) h.1
 
 pub past_shorter : (s : Sign) (ts rest : List Tok) → past_sign s ts ≡ Some rest → length ts ≡ suc (length rest)
 past_shorter s ts rest e = ap length (past_sign_out s ts rest e)

@@ -1,92 +1,69 @@
 -- What entering a text does.
-use Rattle.std.specs.Prelude.{◌≡◌, ℕ, ◌+◌, ◌-◌, ◌<◌, Bool, true, false, cond, ◌&&◌, List, ◌++◌, length, is_some, Some, None, Ok, Err, Option, Result, nat_le, nat_lt}
-use Rattle.std.specs.List.{list_all}
+use Rattle.std.specs.Prelude.{◌≡◌, ℕ, ◌+◌, ◌-◌, ◌<◌, ◌≤◌, List, [], ◌∷◌, ◌++◌, length, Contains, IsSome, None, Ok, Err, Result}
 use Rattle.base.specs.Listing.{action_of}
 use Rattle.base.specs.declared.refusal.Refusal.{Refusal}
 use Rattle.base.specs.declared.refusal.Refusal.TheVariants.{Grammar, Nameless, Full}
-use Rattle.formula.specs.declared.nodes.Entry.{Entry}
 use Rattle.formula.specs.declared.nodes.Nodes.{Nodes}
 use Rattle.formula.specs.Formulas.{by_names, size}
-use Rattle.formula.specs.Grammar.{Says}
-use Rattle.formula.specs.Laying.{DraftState, Shape, shapes, top, lay, formula_at}
-use Rattle.formula.specs.Reading.{tree_of}
-use Rattle.formula.specs.Tokens.{Tok, mark, name, tokens_of}
+use Rattle.formula.specs.Grammar.{Parses}
+use Rattle.formula.specs.Nodes.{shapes, roots, formula_of}
+use Rattle.formula.specs.Shapes.{Shape}
+use Rattle.formula.specs.Tokens.{Tok, name}
 use Rattle.formula.specs.Trees.{Tree}
+use Rattle.formula.specs.Vocabulary.{Vocabulary}
 
--- whether a token is no name that the list lacks
-abbrev pub is_listed : List (List ℕ) → Tok → Bool
-is_listed names (mark m) = true
-is_listed names (name w) = is_some (action_of w names)
+-- A text that can be entered: it has 1 to 1,024 bytes, and is the formula t.
+pub record IsFormula (text : List ℕ) (t : Tree) : Type 0 where
+  pub some : 1 ≤ length text
+  pub few : length text ≤ 1024
+  pub parses : Parses text t
 
-abbrev pub all_listed : List (List ℕ) → List Tok → Bool
-all_listed names ts = list_all (is_listed names) ts
+-- Why a text is none.
+pub data Unreadable (text : List ℕ) : Type 0 where
+  empty : length text ≡ 0 → Unreadable text
+  too_long : 1024 < length text → Unreadable text
+  no_formula : ((t : Tree) → ¬ Parses text t) → Unreadable text
 
--- a text has 1 to 1,024 bytes
-abbrev pub fits : List ℕ → Bool
-fits text = nat_le 1 (length text) && nat_le (length text) 1024
+-- Each name among the tokens is listed.
+abbrev pub AllListed : Vocabulary → List Tok → Type 0
+AllListed v ts = (w : List ℕ) → Contains ts (name w) → IsSome (action_of w v.labels)
 
--- The answer to a formula, in the order of the checks: 6 for a name that the list lacks, 7 where the 49th node would be needed; else the
--- number of its last node.
-abbrev pub verdict : List (List ℕ) → ℕ → List Tok → Tree → Result ℕ Refusal
-verdict names count ts t = cond (all_listed names ts) (cond (nat_lt 48 (count + size t)) (Err Full) (Ok (count + size t - 1))) (Err Nameless)
+-- One is not.
+abbrev pub Unlisted : Vocabulary → List Tok → Type 0
+Unlisted v ts = (w : List ℕ) × Contains ts (name w) × (action_of w v.labels ≡ None)
 
-abbrev pub verdict_on : List (List ℕ) → ℕ → List Tok → Option Tree → Result ℕ Refusal
-verdict_on names count ts None = Err Grammar
-verdict_on names count ts (Some t) = verdict names count ts t
+-- A table has eight formulas, or too many nodes for those of one more.
+pub data NoRoom (n : Nodes) (t : Tree) : Type 0 where
+  eight_formulas : length (roots n) ≡ 8 → NoRoom n t
+  too_many_nodes : 48 < length (shapes n) + size t → NoRoom n t
 
-abbrev pub verdict_at : List (List ℕ) → ℕ → Option (List Tok) → Result ℕ Refusal
-verdict_at names count None = Err Grammar
-verdict_at names count (Some ts) = verdict_on names count ts (tree_of ts)
-
--- the tokens as a whole: their tree was laid into a draft
-abbrev pub Whole : List (List ℕ) → List Tok → DraftState → DraftState → Option ℕ → Type 0
-Whole names ts before after None = tree_of ts ≡ None
-Whole names ts before after (Some root) = (t : Tree) × (tree_of ts ≡ Some t) × (after ≡ lay names t before) × (root ≡ top after)
-
--- the nodes after a tree was written past others
-pub record Written (names : List (List ℕ)) (t : Tree) (before after : List Shape) (root : ℕ) : Type 0 where
+-- A table that took one formula more, of number f: its nodes stand past the others, and all others
+-- are as they were.
+pub record OneMore (v : Vocabulary) (t : Tree) (before after : Nodes) (f : ℕ) : Type 0 where
+  pub number : f ≡ length (roots before)
   pub new : List Shape
-  pub grown : after ≡ before ++ new
+  pub nodes_are : shapes after ≡ shapes before ++ new
   pub long : length new ≡ size t
-  pub decodes : formula_at after root ≡ by_names names t
+  pub roots_are : roots after ≡ roots before ++ (length (shapes after) - 1) ∷ []
+  pub decodes : formula_of after f ≡ by_names v t
+  pub earlier : (g : ℕ) → g < f → formula_of after g ≡ formula_of before g
 
--- what the check of the tokens hands on
-pub record Checked (names : List (List ℕ)) (ts : List Tok) (before : List Shape) (e : Entry) : Type 0 where
+-- A text that was entered, and its number.
+pub record Added (text : List ℕ) (v : Vocabulary) (before after : Nodes) (f : ℕ) : Type 0 where
   pub tree : Tree
-  pub is : tree_of ts ≡ Some tree
-  pub answer : verdict names (length before) ts tree ≡ Ok e.root
-  pub written : Written names tree before (shapes e.nodes) e.root
+  pub is : IsFormula text tree
+  pub listed : AllListed v is.parses.tokens
+  pub next : OneMore v tree before after f
 
--- and of a text
-pub record Planned (names : List (List ℕ)) (text : List ℕ) (before : List Shape) (e : Entry) : Type 0 where
-  pub right_size : fits text ≡ true
-  pub tokens : List Tok
-  pub lexed : tokens_of text ≡ Some tokens
-  pub checked : Checked names tokens before e
+-- Why a text is refused: 5, then 6, then 7, and for nothing else.
+abbrev pub Refused : List ℕ → Vocabulary → Nodes → Refusal → Type 0
+Refused text v n Grammar = Unreadable text
+Refused text v n Nameless = (t : Tree) × (d : IsFormula text t) × Unlisted v d.parses.tokens
+Refused text v n Full =
+    (t : Tree) × (d : IsFormula text t) × AllListed v d.parses.tokens × NoRoom n t
+Refused text v n e = ⊥
 
--- why a text is refused
-pub record Refused (names : List (List ℕ)) (text : List ℕ) (count : ℕ) (e : Refusal) : Type 0 where
-  pub why : cond (fits text) (verdict_at names count (tokens_of text)) (Err Grammar) ≡ Err e
-
--- what the two checks answer
-abbrev pub ChecksTokens : List (List ℕ) → List Tok → List Shape → Result Entry Refusal → Type 0
-ChecksTokens names ts before (Ok e) = Checked names ts before e
-ChecksTokens names ts before (Err e) = verdict_on names (length before) ts (tree_of ts) ≡ Err e
-
-abbrev pub Checks : List (List ℕ) → List ℕ → List Shape → Result Entry Refusal → Type 0
-Checks names text before (Ok e) = Planned names text before e
-Checks names text before (Err e) = Refused names text (length before) e
-
--- What entering does, for each text, label list and table of nodes.
-pub record Entered (text : List ℕ) (names : List (List ℕ)) (before after : Nodes) (r : Result ℕ Refusal) : Type 0 where
-  -- 5 first, for an empty text or one that is too long, and for one that is no formula
-  pub oversized : fits text ≡ false → r ≡ Err Grammar
-  pub unformed : ((t : Tree) → Says text t → ⊥) → r ≡ Err Grammar
-  -- else the verdict on the formula that the text is
-  pub formed : fits text ≡ true → (t : Tree) (d : Says text t) → r ≡ verdict names (length (shapes before)) d.tokens t
-  -- its nodes stand past those before, which are as they were; its number decodes to it
-  pub written : (root : ℕ) → r ≡ Ok root → (t : Tree) → Says text t → Written names t (shapes before) (shapes after) root
-  -- earlier numbers decode as they did
-  pub earlier : (k : ℕ) → k < length (shapes before) → formula_at (shapes after) k ≡ formula_at (shapes before) k
-  -- a refusal alters nothing
-  pub unaltered : (e : Refusal) → r ≡ Err e → after ≡ before
+-- What entering a text does to a table. A refusal alters nothing.
+abbrev pub Entered : List ℕ → Vocabulary → Nodes → Nodes → Result ℕ Refusal → Type 0
+Entered text v before after (Ok f) = Added text v before after f
+Entered text v before after (Err e) = Refused text v before e × (after ≡ before)

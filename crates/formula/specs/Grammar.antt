@@ -1,14 +1,14 @@
 -- The grammar: which tokens are a formula, and which. `rest` is what follows.
--- The mark that a sign is stands as `signed`, since `Sign` is the type of signs.
+-- The symbol that a sign is stands as `signed`, since `Sign` is the type of signs.
 use Rattle.std.specs.Prelude.{◌≡◌, ℕ, Bool, true, false, List, [], ◌∷◌, Some}
-use Rattle.formula.specs.declared.mark.Operator.{Operator}
-use Rattle.formula.specs.declared.mark.Quantifier.{Quantifier}
-use Rattle.formula.specs.declared.mark.Link.{Link}
-use Rattle.formula.specs.declared.mark.Mark.{Mark}
-use Rattle.formula.specs.declared.mark.Mark.TheVariants.{True, False, Tau, Not, Short, Path, Between, Sign as signed}
-use Rattle.formula.specs.declared.mark.Sign.{Sign}
-use Rattle.formula.specs.declared.mark.Sign.TheVariants.{Open, Close, BracketOpen, BracketClose, BraceOpen, BraceClose, And, Or}
-use Rattle.formula.specs.Tokens.{Tok, mark, name, tokens_of}
+use Rattle.formula.specs.declared.symbol.Operator.{Operator}
+use Rattle.formula.specs.declared.symbol.Quantifier.{Quantifier}
+use Rattle.formula.specs.declared.symbol.Link.{Link}
+use Rattle.formula.specs.declared.symbol.Symbol.{Symbol}
+use Rattle.formula.specs.declared.symbol.Symbol.TheVariants.{True, False, Tau, Not, Short, Path, Between, Sign as signed}
+use Rattle.formula.specs.declared.symbol.Sign.{Sign}
+use Rattle.formula.specs.declared.symbol.Sign.TheVariants.{Open, Close, BracketOpen, BracketClose, BraceOpen, BraceClose, And, Or}
+use Rattle.formula.specs.Tokens.{Tok, symbol, name, tokens_of}
 use Rattle.formula.specs.Trees.{Acts, all, none, silent, named, complement, intersection, union, Tree, TRUE, FALSE, NOT, AND, OR, short, path}
 
 -- NOT binds closest, then AND, then OR
@@ -17,20 +17,28 @@ pub data Level : Type 0 where
   and_level : Level
   tight : Level
 
--- In braces. Chains of AND and of OR group from the left: what stands before the last AND or OR of a chain is one formula.
+-- In braces. Chains of AND and of OR group from the left: what stands before the last AND or OR of
+-- a chain is one formula.
 pub data ActionFormula : Level → List Tok → Acts → List Tok → Type 0 where
-  no_or : {ts rest : List Tok} {c : Acts} → ActionFormula and_level ts c rest → ActionFormula or_level ts c rest
+  no_or : {ts rest : List Tok} {c : Acts} → ActionFormula and_level ts c rest →
+      ActionFormula or_level ts c rest
   with_or : {ts us rest : List Tok} {c d : Acts} →
-      ActionFormula or_level ts c (mark (signed Or) ∷ us) → ActionFormula and_level us d rest → ActionFormula or_level ts (union c d) rest
-  no_and : {ts rest : List Tok} {c : Acts} → ActionFormula tight ts c rest → ActionFormula and_level ts c rest
+      ActionFormula or_level ts c (symbol (signed Or) ∷ us) → ActionFormula and_level us d rest →
+      ActionFormula or_level ts (union c d) rest
+  no_and : {ts rest : List Tok} {c : Acts} → ActionFormula tight ts c rest →
+      ActionFormula and_level ts c rest
   with_and : {ts us rest : List Tok} {c d : Acts} →
-      ActionFormula and_level ts c (mark (signed And) ∷ us) → ActionFormula tight us d rest → ActionFormula and_level ts (intersection c d) rest
-  true_word : {rest : List Tok} → ActionFormula tight (mark True ∷ rest) all rest
-  false_word : {rest : List Tok} → ActionFormula tight (mark False ∷ rest) none rest
-  tau_word : {rest : List Tok} → ActionFormula tight (mark Tau ∷ rest) silent rest
+      ActionFormula and_level ts c (symbol (signed And) ∷ us) → ActionFormula tight us d rest →
+      ActionFormula and_level ts (intersection c d) rest
+  true_word : {rest : List Tok} → ActionFormula tight (symbol True ∷ rest) all rest
+  false_word : {rest : List Tok} → ActionFormula tight (symbol False ∷ rest) none rest
+  tau_word : {rest : List Tok} → ActionFormula tight (symbol Tau ∷ rest) silent rest
   by_name : {w : List ℕ} {rest : List Tok} → ActionFormula tight (name w ∷ rest) (named w) rest
-  negated : {ts rest : List Tok} {c : Acts} → ActionFormula tight ts c rest → ActionFormula tight (mark Not ∷ ts) (complement c) rest
-  grouped : {ts rest : List Tok} {c : Acts} → ActionFormula or_level ts c (mark (signed Close) ∷ rest) → ActionFormula tight (mark (signed Open) ∷ ts) c rest
+  negated : {ts rest : List Tok} {c : Acts} → ActionFormula tight ts c rest →
+      ActionFormula tight (symbol Not ∷ ts) (complement c) rest
+  grouped : {ts rest : List Tok} {c : Acts} →
+      ActionFormula or_level ts c (symbol (signed Close) ∷ rest) →
+      ActionFormula tight (symbol (signed Open) ∷ ts) c rest
 
 -- whether a formula can begin here
 abbrev pub opens : Sign → Bool
@@ -43,7 +51,7 @@ opens BraceClose = false
 opens And = false
 opens Or = false
 
-abbrev pub begins_with : Mark → Bool
+abbrev pub begins_with : Symbol → Bool
 begins_with (signed s) = opens s
 begins_with True = true
 begins_with False = true
@@ -56,35 +64,47 @@ begins_with (Between l) = false
 abbrev pub begins : List Tok → Bool
 begins [] = false
 begins (name w ∷ ts) = false
-begins (mark m ∷ ts) = begins_with m
+begins (symbol m ∷ ts) = begins_with m
 
 mutual
   pub data Derives : Level → List Tok → Tree → List Tok → Type 0 where
-    no_or : {ts rest : List Tok} {t : Tree} → Derives and_level ts t rest → Derives or_level ts t rest
+    no_or : {ts rest : List Tok} {t : Tree} → Derives and_level ts t rest →
+        Derives or_level ts t rest
     with_or : {ts us rest : List Tok} {t u : Tree} →
-        Derives or_level ts t (mark (signed Or) ∷ us) → Derives and_level us u rest → Derives or_level ts (OR t u) rest
+        Derives or_level ts t (symbol (signed Or) ∷ us) → Derives and_level us u rest →
+        Derives or_level ts (OR t u) rest
     no_and : {ts rest : List Tok} {t : Tree} → Derives tight ts t rest → Derives and_level ts t rest
     with_and : {ts us rest : List Tok} {t u : Tree} →
-        Derives and_level ts t (mark (signed And) ∷ us) → Derives tight us u rest → Derives and_level ts (AND t u) rest
-    true_word : {rest : List Tok} → Derives tight (mark True ∷ rest) TRUE rest
-    false_word : {rest : List Tok} → Derives tight (mark False ∷ rest) FALSE rest
-    negated : {ts rest : List Tok} {t : Tree} → Derives tight ts t rest → Derives tight (mark Not ∷ ts) (NOT t) rest
-    grouped : {ts rest : List Tok} {t : Tree} → Derives or_level ts t (mark (signed Close) ∷ rest) → Derives tight (mark (signed Open) ∷ ts) t rest
-    one_part : {o : Operator} {ts rest : List Tok} {c : Acts} {t : Tree} → Part tight ts c t rest → Derives tight (mark (Short o) ∷ ts) (short o c t) rest
+        Derives and_level ts t (symbol (signed And) ∷ us) → Derives tight us u rest →
+        Derives and_level ts (AND t u) rest
+    true_word : {rest : List Tok} → Derives tight (symbol True ∷ rest) TRUE rest
+    false_word : {rest : List Tok} → Derives tight (symbol False ∷ rest) FALSE rest
+    negated : {ts rest : List Tok} {t : Tree} → Derives tight ts t rest →
+        Derives tight (symbol Not ∷ ts) (NOT t) rest
+    grouped : {ts rest : List Tok} {t : Tree} →
+        Derives or_level ts t (symbol (signed Close) ∷ rest) →
+        Derives tight (symbol (signed Open) ∷ ts) t rest
+    one_part : {o : Operator} {ts rest : List Tok} {c : Acts} {t : Tree} → Part tight ts c t rest →
+        Derives tight (symbol (Short o) ∷ ts) (short o c t) rest
     two_parts : {q : Quantifier} {l : Link} {ts us rest : List Tok} {c d : Acts} {t u : Tree} →
-        Part or_level ts c t (mark (Between l) ∷ us) → Part or_level us d u (mark (signed BracketClose) ∷ rest) →
-        Derives tight (mark (Path q) ∷ mark (signed BracketOpen) ∷ ts) (path q l c t d u) rest
+        Part or_level ts c t (symbol (Between l) ∷ us) →
+        Part or_level us d u (symbol (signed BracketClose) ∷ rest) →
+        Derives tight (symbol (Path q) ∷ symbol (signed BracketOpen) ∷ ts) (path q l c t d u) rest
 
-  -- Braces, a formula, or both. After braces a formula is read whenever one can begin. Left-out braces mean {TRUE}, a left-out formula TRUE.
+  -- Braces, a formula, or both. After braces a formula is read whenever one can begin. Left-out
+  -- braces mean {TRUE}, a left-out formula TRUE.
   pub data Part : Level → List Tok → Acts → Tree → List Tok → Type 0 where
-    formula_alone : {l : Level} {ts rest : List Tok} {t : Tree} → Derives l ts t rest → Part l ts all t rest
+    formula_alone : {l : Level} {ts rest : List Tok} {t : Tree} → Derives l ts t rest →
+        Part l ts all t rest
     braces_alone : {l : Level} {ts rest : List Tok} {c : Acts} →
-        ActionFormula or_level ts c (mark (signed BraceClose) ∷ rest) → begins rest ≡ false → Part l (mark (signed BraceOpen) ∷ ts) c TRUE rest
+        ActionFormula or_level ts c (symbol (signed BraceClose) ∷ rest) → begins rest ≡ false →
+        Part l (symbol (signed BraceOpen) ∷ ts) c TRUE rest
     braces_then : {l : Level} {ts us rest : List Tok} {c : Acts} {t : Tree} →
-        ActionFormula or_level ts c (mark (signed BraceClose) ∷ us) → Derives l us t rest → Part l (mark (signed BraceOpen) ∷ ts) c t rest
+        ActionFormula or_level ts c (symbol (signed BraceClose) ∷ us) → Derives l us t rest →
+        Part l (symbol (signed BraceOpen) ∷ ts) c t rest
 
 -- A text of the grammar: its tokens are a formula as a whole.
-pub record Says (text : List ℕ) (t : Tree) : Type 0 where
+pub record Parses (text : List ℕ) (t : Tree) : Type 0 where
   pub tokens : List Tok
   pub lexed : tokens_of text ≡ Some tokens
   pub whole : Derives or_level tokens t []

@@ -5,9 +5,9 @@ use Rattle.formula.specs.declared.built.Joint.{Joint}
 use Rattle.formula.specs.declared.built.Joint.TheVariants as joint
 use Rattle.formula.specs.declared.built.Level.{Level}
 use Rattle.formula.specs.declared.built.Level.TheVariants as level
-use Rattle.formula.specs.declared.mark.Sign.{Sign}
-use Rattle.formula.specs.declared.mark.Sign.TheVariants as sign
-use Rattle.formula.specs.Laying.{Shape, and_node, or_node}
+use Rattle.formula.specs.declared.symbol.Sign.{Sign}
+use Rattle.formula.specs.declared.symbol.Sign.TheVariants as sign
+use Rattle.formula.specs.Shapes.{Shape, and_node, or_node}
 use Rattle.formula.specs.Reading.{Stage, OrLevel, AndLevel, Tight, Rules}
 
 abbrev pub sign_of : Joint → Sign
@@ -24,7 +24,8 @@ stage (level.Chain joint.Or) = OrLevel
 stage (level.Chain joint.And) = AndLevel
 stage level.Tight = Tight
 
--- what a word makes of two formulas that were read, of the numbers of two nodes, and of an action's being in two sets
+-- what a word makes of two formulas that were read, of the numbers of two nodes, and of an action's
+-- being in two sets
 abbrev pub joined : {X : Type 0} → Rules X → Joint → X → X → X
 joined R joint.Or = R.either
 joined R joint.And = R.both

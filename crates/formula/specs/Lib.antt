@@ -1,6 +1,7 @@
 pub mod Agreement
 pub mod Building
 pub mod Chaining
+pub mod Checking
 pub mod Choosing
 pub mod Entering
 pub mod Finding
@@ -8,9 +9,13 @@ pub mod Formulas
 pub mod Grammar
 pub mod Laying
 pub mod Levels
+pub mod Lexes
+pub mod Nodes
 pub mod Places
 pub mod Reading
+pub mod Shapes
+pub mod Tables
 pub mod Texts
 pub mod Tokens
 pub mod Trees
-pub mod Lexes
+pub mod Vocabulary

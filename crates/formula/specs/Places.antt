@@ -4,11 +4,11 @@ use Rattle.std.specs.Borrow.{Bor}
 use Rattle.formula.specs.declared.built.Found.{Found}
 use Rattle.formula.specs.declared.cursor.Cursor.{Cursor}
 use Rattle.formula.specs.declared.token.Token.{Token}
-use Rattle.formula.specs.declared.mark.Link.{Link}
-use Rattle.formula.specs.declared.mark.Mark.{Mark}
-use Rattle.formula.specs.declared.mark.Sign.{Sign}
+use Rattle.formula.specs.declared.symbol.Link.{Link}
+use Rattle.formula.specs.declared.symbol.Symbol.{Symbol}
+use Rattle.formula.specs.declared.symbol.Sign.{Sign}
 use Rattle.formula.specs.Reading.{past_sign}
-use Rattle.formula.specs.Tokens.{Tok, mark, name, tok}
+use Rattle.formula.specs.Tokens.{Tok, symbol, name, tok}
 
 abbrev pub unread : Bor (List Token) → List Tok
 unread rest = map tok rest.now
@@ -17,9 +17,9 @@ unread rest = map tok rest.now
 abbrev pub ahead : Cursor → List Tok
 ahead c = unread c.tokens
 
--- the same labels, where these tokens are left
+-- the same names, where these tokens are left
 abbrev pub moved : Cursor → Bor (List Token) → Cursor
-moved c rest = record { tokens = rest; labels = c.labels }
+moved c rest = record { tokens = rest; names = c.names }
 
 -- what follows one token
 abbrev pub Past : List Tok → Option (List Tok) → Option (Bor (List Token)) → Type 0
@@ -29,19 +29,23 @@ Past ts o (Some rest) = (o ≡ Some (unread rest)) × (length ts ≡ length (unr
 -- what was read, as far as a sign that follows it
 abbrev pub Closed : {V : Type 0} → Sign → Found V → Option (Found V) → Type 0
 Closed s y None = past_sign s (unread y.rest) ≡ None
-Closed s y (Some z) = (past_sign s (unread y.rest) ≡ Some (unread z.rest)) × (length (unread y.rest) ≡ length (unread z.rest) + 1) × (z.value ≡ y.value)
+Closed s y (Some z) =
+    (past_sign s (unread y.rest) ≡ Some (unread z.rest))
+    × (length (unread y.rest) ≡ length (unread z.rest) + 1) × (z.value ≡ y.value)
 
 -- the sign or word that stands first, and what follows it; none at a name
-abbrev pub first : List Tok → Option Mark
+abbrev pub first : List Tok → Option Symbol
 first [] = None
 first (name w ∷ ts) = None
-first (mark m ∷ ts) = Some m
+first (symbol m ∷ ts) = Some m
 
-abbrev pub Marked : List Tok → Option (Found Mark) → Type 0
-Marked ts None = first ts ≡ None
-Marked ts (Some y) = (ts ≡ mark y.value ∷ unread y.rest) × (length ts ≡ length (unread y.rest) + 1)
+abbrev pub SymbolFirst : List Tok → Option (Found Symbol) → Type 0
+SymbolFirst ts None = first ts ≡ None
+SymbolFirst ts (Some y) =
+    (ts ≡ symbol y.value ∷ unread y.rest) × (length ts ≡ length (unread y.rest) + 1)
 
 -- the word between two parts, and what follows it
 abbrev pub Linked : List Tok → Option (Link × List Tok) → Option (Found Link) → Type 0
 Linked ts o None = o ≡ None
-Linked ts o (Some y) = (o ≡ Some (y.value, unread y.rest)) × (length ts ≡ length (unread y.rest) + 1)
+Linked ts o (Some y) =
+    (o ≡ Some (y.value, unread y.rest)) × (length ts ≡ length (unread y.rest) + 1)

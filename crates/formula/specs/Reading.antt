@@ -1,13 +1,13 @@
--- How the reader goes through the tokens. Grammar.antt says what a formula is; that the two agree is proved.
--- The mark that a sign is stands as `signed`, since `Sign` is the type of signs.
+-- How the reader goes through the tokens. Grammar.antt says what a formula is; that the two agree
+-- is proved. The symbol that a sign is stands as `signed`, since `Sign` is the type of signs.
 use Rattle.std.specs.Prelude.{◌≡◌, ℕ, zero, suc, ◌+◌, ◌*◌, ◌<◌, Bool, false, cond, List, [], ◌∷◌, length, Some, None, Option, ◌==◌}
-use Rattle.formula.specs.declared.mark.Quantifier.{Quantifier}
-use Rattle.formula.specs.declared.mark.Link.{Link}
-use Rattle.formula.specs.declared.mark.Mark.{Mark}
-use Rattle.formula.specs.declared.mark.Mark.TheVariants.{True, False, Tau, Not, Short, Path, Between, Sign as signed}
-use Rattle.formula.specs.declared.mark.Sign.{Sign}
-use Rattle.formula.specs.declared.mark.Sign.TheVariants.{Open, Close, BracketOpen, BracketClose, BraceOpen, BraceClose, And, Or}
-use Rattle.formula.specs.Tokens.{Tok, mark, name}
+use Rattle.formula.specs.declared.symbol.Quantifier.{Quantifier}
+use Rattle.formula.specs.declared.symbol.Link.{Link}
+use Rattle.formula.specs.declared.symbol.Symbol.{Symbol}
+use Rattle.formula.specs.declared.symbol.Symbol.TheVariants.{True, False, Tau, Not, Short, Path, Between, Sign as signed}
+use Rattle.formula.specs.declared.symbol.Sign.{Sign}
+use Rattle.formula.specs.declared.symbol.Sign.TheVariants.{Open, Close, BracketOpen, BracketClose, BraceOpen, BraceClose, And, Or}
+use Rattle.formula.specs.Tokens.{Tok, symbol, name}
 use Rattle.formula.specs.Trees.{Acts, all, none, silent, named, complement, intersection, union, Tree, TRUE, FALSE, NOT, AND, OR, short, path}
 use Rattle.formula.specs.Grammar.{opens, begins}
 
@@ -22,7 +22,7 @@ code BraceClose = 5
 code And = 6
 code Or = 7
 
-abbrev pub is : Sign → Mark → Bool
+abbrev pub is : Sign → Symbol → Bool
 is s (signed t) = code t == code s
 is s True = false
 is s False = false
@@ -36,7 +36,7 @@ is s (Between l) = false
 abbrev pub past_sign : Sign → List Tok → Option (List Tok)
 past_sign s [] = None
 past_sign s (name w ∷ ts) = None
-past_sign s (mark m ∷ ts) = cond (is s m) (Some ts) None
+past_sign s (symbol m ∷ ts) = cond (is s m) (Some ts) None
 
 abbrev pub if_there : {X : Type 0} → Option (List Tok) → (List Tok → X) → X → X
 if_there None f x = x
@@ -73,10 +73,12 @@ unfoldable pub read : {X : Type 0} → Rules X → ℕ → Stage X → List Tok 
 read R zero l ts = None
 read R (suc n) OrLevel ts = then (read R n AndLevel ts) (λ x rest. read R n (OrMore x) rest)
 read R (suc n) (OrMore x) ts =
-    if_there (past_sign Or ts) (λ us. then (read R n AndLevel us) (λ y rest. read R n (OrMore (R.either x y)) rest)) (Some (x, ts))
+    if_there (past_sign Or ts) (λ us. then (read R n AndLevel us)
+    (λ y rest. read R n (OrMore (R.either x y)) rest)) (Some (x, ts))
 read R (suc n) AndLevel ts = then (read R n Tight ts) (λ x rest. read R n (AndMore x) rest)
 read R (suc n) (AndMore x) ts =
-    if_there (past_sign And ts) (λ us. then (read R n Tight us) (λ y rest. read R n (AndMore (R.both x y)) rest)) (Some (x, ts))
+    if_there (past_sign And ts) (λ us. then (read R n Tight us)
+    (λ y rest. read R n (AndMore (R.both x y)) rest)) (Some (x, ts))
 read R (suc n) Tight ts = R.tightly (read R n) ts
 
 abbrev pub rank : {X : Type 0} → Stage X → ℕ
@@ -99,7 +101,7 @@ abbrev pub in_group : {X : Type 0} → Sign → Got X → Got X
 in_group s g = cond (opens s) (then g (ended_by Close)) None
 
 -- action formulas
-abbrev pub action_at : Reader Acts → Mark → List Tok → Got Acts
+abbrev pub action_at : Reader Acts → Symbol → List Tok → Got Acts
 action_at r (signed s) ts = in_group s (r OrLevel ts)
 action_at r True ts = Some (all, ts)
 action_at r False ts = Some (none, ts)
@@ -112,7 +114,7 @@ action_at r (Between l) ts = None
 abbrev pub action : Reader Acts → List Tok → Got Acts
 action r [] = None
 action r (name w ∷ ts) = Some (named w, ts)
-action r (mark m ∷ ts) = action_at r m ts
+action r (symbol m ∷ ts) = action_at r m ts
 
 abbrev pub action_rules : Rules Acts
 action_rules = record { both = intersection; either = union; tightly = action }
@@ -129,10 +131,12 @@ abbrev pub after_braces : (List Tok → Got Tree) → Acts → List Tok → Got 
 after_braces r c ts = cond (begins ts) (with_formula r c ts) (Some ((c, TRUE), ts))
 
 abbrev pub part : (List Tok → Got Tree) → List Tok → Got (Acts × Tree)
-part r ts = if_there (past_sign BraceOpen ts) (λ us. then (in_braces us) (after_braces r)) (with_formula r all ts)
+part r ts =
+    if_there (past_sign BraceOpen ts)
+    (λ us. then (in_braces us) (after_braces r)) (with_formula r all ts)
 
 -- the word between two parts
-abbrev pub link_of : Mark → Option Link
+abbrev pub link_of : Symbol → Option Link
 link_of (signed s) = None
 link_of True = None
 link_of False = None
@@ -149,16 +153,18 @@ linked (Some l) ts = Some (l, ts)
 abbrev pub link : List Tok → Got Link
 link [] = None
 link (name w ∷ ts) = None
-link (mark m ∷ ts) = linked (link_of m) ts
+link (symbol m ∷ ts) = linked (link_of m) ts
 
-abbrev pub second_part : (List Tok → Got Tree) → Quantifier → Acts × Tree → Link → List Tok → Got Tree
-second_part r q p l ts = then (part r ts) (λ p' rest. ended_by BracketClose (path q l p.0 p.1 p'.0 p'.1) rest)
+abbrev pub second_part : (List Tok → Got Tree) → Quantifier → Acts × Tree → Link → List Tok →
+    Got Tree
+second_part r q p l ts =
+    then (part r ts) (λ p' rest. ended_by BracketClose (path q l p.0 p.1 p'.0 p'.1) rest)
 
 abbrev pub two_parts : (List Tok → Got Tree) → Quantifier → List Tok → Got Tree
 two_parts r q ts = then (part r ts) (λ p us. then (link us) (second_part r q p))
 
 -- formulas
-abbrev pub formula_at : Reader Tree → Mark → List Tok → Got Tree
+abbrev pub formula_at : Reader Tree → Symbol → List Tok → Got Tree
 formula_at r (signed s) ts = in_group s (r OrLevel ts)
 formula_at r True ts = Some (TRUE, ts)
 formula_at r False ts = Some (FALSE, ts)
@@ -171,7 +177,7 @@ formula_at r (Between l) ts = None
 abbrev pub formula : Reader Tree → List Tok → Got Tree
 formula r [] = None
 formula r (name w ∷ ts) = None
-formula r (mark m ∷ ts) = formula_at r m ts
+formula r (symbol m ∷ ts) = formula_at r m ts
 
 abbrev pub formula_rules : Rules Tree
 formula_rules = record { both = AND; either = OR; tightly = formula }

@@ -1,8 +1,8 @@
 -- What a text says, as trees.
 use Rattle.std.specs.Prelude.{ℕ, List}
-use Rattle.formula.specs.declared.mark.Operator.{Operator}
-use Rattle.formula.specs.declared.mark.Quantifier.{Quantifier}
-use Rattle.formula.specs.declared.mark.Link.{Link}
+use Rattle.formula.specs.declared.symbol.Operator.{Operator}
+use Rattle.formula.specs.declared.symbol.Quantifier.{Quantifier}
+use Rattle.formula.specs.declared.symbol.Link.{Link}
 
 -- an action formula: TRUE, FALSE, TAU, a name, NOT, AND and OR
 pub data Acts : Type 0 where

@@ -1,19 +1,17 @@
 ghost use Rattle.std.specs.Prelude.{◌≡◌, ◌≤◌, length, ℕ, Some};
-ghost use Rattle.base.specs.Listing.{spelled};
-ghost use Rattle.base.specs.Labels.{listed};
 ghost use Rattle.base.specs.Sets.{holds};
 ghost use Rattle.formula.specs.Choosing.{IsSet, ChoosesBy, Chooses};
 ghost use Rattle.formula.specs.Levels.{operand, stage, combined};
 ghost use Rattle.formula.specs.Places.{unread, ahead, moved};
 ghost use Rattle.formula.specs.Reading.{OrLevel, Tight, then, in_group, in_braces};
 ghost use Rattle.formula.specs.Trees.{named, complement};
+ghost use Rattle.formula.specs.Vocabulary.{vocabulary};
 
 use crate::built::{Found, Joint, Level};
 use crate::cursor::Cursor;
-use crate::mark::{Mark, Sign};
+use crate::symbol::{Sign, Symbol};
 use crate::token::Token;
-use base::action_set::ActionSet;
-use base::name::Name;
+use base::{ActionSet, Name};
 
 impl Joint {
     // The actions that two sets have together, or those that both have.
@@ -30,15 +28,17 @@ impl Joint {
 impl<'a> Cursor<'a> {
     // The action of a name. A name that is not listed has none; such texts are refused elsewhere.
     fn named(&self, name: Name) -> ActionSet
-        ensures { IsSet (listed self.now.labels.now) (named (spelled name)) result }
+        ensures { IsSet (vocabulary self.now.names) (named name) result }
     {
-        self.labels
+        self.names
+            .labels
             .lookup(name.as_bytes())
-            .map_or(ActionSet::none(), ActionSet::only)
+            .map_or(ActionSet::empty(), ActionSet::from_action)
     }
 
-    // The actions that an action formula stands for, as far as a level reaches.
-    // kept: this, TRUE, FALSE, NOT and parentheses are in reader.rt too; one reader over a trait gets no proof, as they lead back to it.
+    // The actions that an action formula stands for, as far as a level reaches. This, TRUE, FALSE,
+    // NOT and parentheses are in reader.rt too; one reader over a trait gets no proof, as they lead
+    // back to it.
     #[cycle(braces)]
     fn actions(&self, level: Level) -> Option<Found<'a, ActionSet>>
         ensures { Chooses self.now (stage level) result }
@@ -62,29 +62,31 @@ impl<'a> Cursor<'a> {
     fn tight_actions(&self) -> Option<Found<'a, ActionSet>>
         ensures { Chooses self.now Tight result }
     {
-        let first = self.next()?;
-        let onward = self.moved_to(first.rest);
-        match first.value {
+        let Some(Found { value: token, rest }) = self.next() else {
+            return None;
+        };
+        let onward = self.moved_to(rest);
+        match token {
             Token::Name(name) => Some(Found {
                 value: self.named(name),
-                rest: first.rest,
+                rest,
             }),
-            Token::Mark(mark) => match mark {
-                Mark::True => Some(Found {
+            Token::Symbol(symbol) => match symbol {
+                Symbol::True => Some(Found {
                     value: ActionSet::all(),
-                    rest: first.rest,
+                    rest,
                 }),
-                Mark::False => Some(Found {
-                    value: ActionSet::none(),
-                    rest: first.rest,
+                Symbol::False => Some(Found {
+                    value: ActionSet::empty(),
+                    rest,
                 }),
-                Mark::Tau => Some(Found {
-                    value: ActionSet::only(0),
-                    rest: first.rest,
+                Symbol::Tau => Some(Found {
+                    value: ActionSet::from_action(0),
+                    rest,
                 }),
-                Mark::Not => onward.other_actions(),
-                Mark::Sign(sign) => onward.grouped_actions(sign),
-                Mark::Short(_) | Mark::Path(_) | Mark::Between(_) => None,
+                Symbol::Not => onward.other_actions(),
+                Symbol::Sign(sign) => onward.grouped_actions(sign),
+                Symbol::Short(_) | Symbol::Path(_) | Symbol::Between(_) => None,
             },
         }
     }
@@ -92,9 +94,12 @@ impl<'a> Cursor<'a> {
     // What follows NOT.
     #[cycle(braces)]
     fn other_actions(&self) -> Option<Found<'a, ActionSet>>
-        ensures { ChoosesBy self.now (λ r ts. then (r Tight ts) (λ c rest. Some (complement c, rest))) result }
+        ensures { ChoosesBy self.now (λ r ts. then (r Tight ts)
+            (λ c rest. Some (complement c, rest))) result }
     {
-        let inner = self.actions(Level::Tight)?;
+        let Some(inner) = self.actions(Level::Tight) else {
+            return None;
+        };
         Some(Found {
             value: inner.value.complement(),
             rest: inner.rest,
@@ -109,15 +114,19 @@ impl<'a> Cursor<'a> {
         if sign != Sign::Open {
             return None;
         }
-        let inner = self.actions(Level::Chain(Joint::Or))?;
-        self.closed(inner, Sign::Close)
+        let Some(inner) = self.actions(Level::Chain(Joint::Or)) else {
+            return None;
+        };
+        self.closed(&inner, Sign::Close)
     }
 
     // The action formula in braces, after the first of them.
     pub(crate) fn braced(&self) -> Option<Found<'a, ActionSet>>
         ensures { ChoosesBy self.now (λ r ts. in_braces ts) result }
     {
-        let inner = self.actions(Level::Chain(Joint::Or))?;
-        self.closed(inner, Sign::BraceClose)
+        let Some(inner) = self.actions(Level::Chain(Joint::Or)) else {
+            return None;
+        };
+        self.closed(&inner, Sign::BraceClose)
     }
 }

@@ -1,6 +1,6 @@
 ghost use Rattle.std.specs.Prelude.{◌≡◌};
 
-use crate::mark::Sign;
+use crate::symbol::Sign;
 use crate::token::Token;
 
 // What was read, and the tokens after it.

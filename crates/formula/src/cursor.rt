@@ -2,25 +2,25 @@ ghost use Rattle.std.specs.Prelude.{◌≡◌, ◌+◌, ◌≤◌, List, [], ◌
 ghost use Rattle.std.specs.Borrow.{Bor};
 ghost use Rattle.formula.specs.Chaining.{MayRead, MayJoin, OnlyOnward, Chain};
 ghost use Rattle.formula.specs.Grammar.{begins};
-ghost use Rattle.formula.specs.Places.{unread, ahead, moved, Past, Closed, Marked, Linked};
+ghost use Rattle.formula.specs.Places.{unread, ahead, moved, Past, Closed, SymbolFirst, Linked};
 ghost use Rattle.formula.specs.Reading.{past_sign, link};
 ghost use Rattle.formula.specs.Tokens.{tok};
 ghost use Rattle.formula.specs.declared.token.Token.{Token};
 
 use crate::built::Found;
-use crate::mark::{Link, Mark, Sign};
+use crate::names::Names;
+use crate::symbol::{Link, Sign, Symbol};
 use crate::token::Token;
-use base::labels::Labels;
 
-// The tokens of a text that are left to read, and the labels by which its names are actions.
+// The tokens of a text that are left to read, and the names that it may use.
 #[derive(Clone, Copy)]
 pub(crate) struct Cursor<'a> {
     pub(crate) tokens: &'a [Token],
-    pub(crate) labels: &'a Labels,
+    pub(crate) names: Names<'a>,
 }
 
 impl<'a> Cursor<'a> {
-    // The same labels, where these tokens are left.
+    // The same names, where these tokens are left.
     pub(crate) fn moved_to(&self, rest: &'a [Token]) -> Cursor<'a>
         ensures { result ≡ moved self.now rest.entry }
     {
@@ -32,7 +32,9 @@ impl<'a> Cursor<'a> {
 
     // The token that stands first, and what follows it.
     pub(crate) fn next(&self) -> Option<Found<'a, Token>>
-        ensures { MatchOption result (ahead self.now ≡ []) (λ y. (ahead self.now ≡ tok y.value ∷ unread y.rest) × (length (ahead self.now) ≡ length (unread y.rest) + 1)) }
+        ensures { MatchOption result (ahead self.now ≡ [])
+            (λ y. (ahead self.now ≡ tok y.value ∷ unread y.rest)
+            × (length (ahead self.now) ≡ length (unread y.rest) + 1)) }
     {
         let (token, rest) = self.tokens.split_first()?;
         Some(Found {
@@ -42,12 +44,14 @@ impl<'a> Cursor<'a> {
     }
 
     // The sign or word that stands first, and what follows it; none at a name.
-    pub(crate) fn mark(&self) -> Option<Found<'a, Mark>>
-        ensures { Marked (ahead self.now) result }
+    pub(crate) fn symbol(&self) -> Option<Found<'a, Symbol>>
+        ensures { SymbolFirst (ahead self.now) result }
     {
-        let Found { value: token, rest } = self.next()?;
+        let Some(Found { value: token, rest }) = self.next() else {
+            return None;
+        };
         match token {
-            Token::Mark(value) => Some(Found { value, rest }),
+            Token::Symbol(value) => Some(Found { value, rest }),
             Token::Name(_) => None,
         }
     }
@@ -56,28 +60,34 @@ impl<'a> Cursor<'a> {
     pub(crate) fn after(&self, sign: Sign) -> Option<&'a [Token]>
         ensures { Past (ahead self.now) (past_sign sign (ahead self.now)) result }
     {
-        let Found { value: mark, rest } = self.mark()?;
-        match mark {
-            Mark::Sign(found) if found == sign => Some(rest),
+        let Found {
+            value: symbol,
+            rest,
+        } = self.symbol()?;
+        match symbol {
+            Symbol::Sign(found) if found == sign => Some(rest),
             _ => None,
         }
     }
 
     // What was read, as far as a sign that closes it.
-    pub(crate) fn closed<T: Copy>(&self, inner: Found<'a, T>, sign: Sign) -> Option<Found<'a, T>>
-        ensures { Closed sign inner.entry result }
+    pub(crate) fn closed<T: Copy>(&self, inner: &Found<'a, T>, sign: Sign) -> Option<Found<'a, T>>
+        ensures { Closed sign inner.now result }
     {
         let rest = self.moved_to(inner.rest).after(sign)?;
-        Some(Found { rest, ..inner })
+        Some(Found { rest, ..*inner })
     }
 
     // The word U or W that stands first, and what follows it.
     pub(crate) fn link(&self) -> Option<Found<'a, Link>>
         ensures { Linked (ahead self.now) (link (ahead self.now)) result }
     {
-        let Found { value: mark, rest } = self.mark()?;
-        match mark {
-            Mark::Between(value) => Some(Found { value, rest }),
+        let Found {
+            value: symbol,
+            rest,
+        } = self.symbol()?;
+        match symbol {
+            Symbol::Between(value) => Some(Found { value, rest }),
             _ => None,
         }
     }
@@ -86,27 +96,30 @@ impl<'a> Cursor<'a> {
     pub(crate) fn can_begin(&self) -> bool
         ensures { result ≡ begins (ahead self.now) }
     {
-        let Some(first) = self.mark() else {
+        let Some(first) = self.symbol() else {
             return false;
         };
         match first.value {
-            Mark::Sign(sign) => sign == Sign::Open,
-            Mark::True | Mark::False | Mark::Not | Mark::Short(_) | Mark::Path(_) => true,
-            Mark::Tau | Mark::Between(_) => false,
+            Symbol::Sign(sign) => sign == Sign::Open,
+            Symbol::True | Symbol::False | Symbol::Not | Symbol::Short(_) | Symbol::Path(_) => true,
+            Symbol::Tau | Symbol::Between(_) => false,
         }
     }
 
-    // Operands with a sign between them, joined from the left; reading and joining may both change the state.
+    // Operands with a sign between them, joined from the left; reading and joining may both change
+    // the state.
     pub(crate) fn chain<
         V: Copy,
         S,
         F: Fn(&'a [Token], &mut S) -> Option<Found<'a, V>>,
         J: Fn(V, V, &mut S) -> V,
     >(&self, sign: Sign, state: &mut S, operand: F, join: J) -> Option<Found<'a, V>>
-        requires reads { (rest : Bor (List Token)) (s : _) → length (unread rest) ≤ length (ahead self.now) → F.pre operand rest s }
+        requires reads { (rest : Bor (List Token)) (s : _) →
+            length (unread rest) ≤ length (ahead self.now) → F.pre operand rest s }
         requires onward { OnlyOnward F.Fn operand }
         requires joins { J.IsAlwaysCallable join }
-        ensures { Chain (MayRead F.Fn operand) (MayJoin J.Fn join) sign self.now.tokens state.old result state.new }
+        ensures { Chain (MayRead F.Fn operand) (MayJoin J.Fn join) sign self.now.tokens state.old
+            result state.new }
     {
         let mut left = operand(self.tokens, state)?;
         while let Some(next) = self.moved_to(left.rest).after(sign) {

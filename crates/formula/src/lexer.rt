@@ -4,13 +4,11 @@ ghost use Rattle.std.specs.List.{take_while};
 ghost use Rattle.base.specs.declared.refusal.Refusal.TheVariants.{Grammar};
 ghost use Rattle.formula.specs.Tokens.{past, sign, word, word_at, name_at, token_at, ended, front, Cuts, Steps, tok, tokens_of};
 
-use crate::enter::MOST_BYTES;
-use crate::mark::{Link, Mark, Operator, Quantifier, Sign};
+use crate::entering::MOST_BYTES;
+use crate::symbol::{Link, Operator, Quantifier, Sign, Symbol};
 use crate::token::Token;
 use arrayvec::ArrayVec;
-use base::name::Name;
-use base::refusal::Refusal;
-use base::spelling::{is_name, is_name_byte};
+use base::{Name, Refusal, is_name_byte};
 
 // The sign that a character is, if it is one.
 fn sign_of(character: char) -> Option<Sign>
@@ -28,26 +26,26 @@ fn sign_of(character: char) -> Option<Sign>
 }
 
 // The word that capitals spell, if they spell one.
-fn word_of(letters: &[u8]) -> Option<Mark>
+fn word_of(letters: &[u8]) -> Option<Symbol>
     ensures { result ≡ word letters.now }
 {
     match letters {
-        b"TRUE" => Some(Mark::True),
-        b"FALSE" => Some(Mark::False),
-        b"TAU" => Some(Mark::Tau),
-        b"NOT" => Some(Mark::Not),
-        b"AND" => Some(Mark::Sign(Sign::And)),
-        b"OR" => Some(Mark::Sign(Sign::Or)),
-        b"E" => Some(Mark::Path(Quantifier::Some)),
-        b"A" => Some(Mark::Path(Quantifier::Every)),
-        b"U" => Some(Mark::Between(Link::Until)),
-        b"W" => Some(Mark::Between(Link::Unless)),
-        b"EX" => Some(Mark::Short(Operator::Ex)),
-        b"EF" => Some(Mark::Short(Operator::Ef)),
-        b"EG" => Some(Mark::Short(Operator::Eg)),
-        b"AX" => Some(Mark::Short(Operator::Ax)),
-        b"AF" => Some(Mark::Short(Operator::Af)),
-        b"AG" => Some(Mark::Short(Operator::Ag)),
+        b"TRUE" => Some(Symbol::True),
+        b"FALSE" => Some(Symbol::False),
+        b"TAU" => Some(Symbol::Tau),
+        b"NOT" => Some(Symbol::Not),
+        b"AND" => Some(Symbol::Sign(Sign::And)),
+        b"OR" => Some(Symbol::Sign(Sign::Or)),
+        b"E" => Some(Symbol::Path(Quantifier::Exists)),
+        b"A" => Some(Symbol::Path(Quantifier::ForAll)),
+        b"U" => Some(Symbol::Between(Link::Until)),
+        b"W" => Some(Symbol::Between(Link::Unless)),
+        b"EX" => Some(Symbol::Short(Operator::Ex)),
+        b"EF" => Some(Symbol::Short(Operator::Ef)),
+        b"EG" => Some(Symbol::Short(Operator::Eg)),
+        b"AX" => Some(Symbol::Short(Operator::Ax)),
+        b"AF" => Some(Symbol::Short(Operator::Af)),
+        b"AG" => Some(Symbol::Short(Operator::Ag)),
         _ => None,
     }
 }
@@ -56,7 +54,8 @@ fn word_of(letters: &[u8]) -> Option<Mark>
 fn run<F: Fn(u8) -> bool>(text: &[u8], belongs: F) -> (&[u8], &[u8])
     requires { F.IsAlwaysCallable belongs }
     ensures within { length result.1.now ≤ length text.now }
-    ensures cut { (p : ℕ → Bool) → ((b : ℕ) (r : Bool) → F.post belongs b r → r ≡ p b) → (result.0.now ≡ take_while p text.now) × (result.1.now ≡ past p text.now) }
+    ensures cut { (p : ℕ → Bool) → ((b : ℕ) (r : Bool) → F.post belongs b r → r ≡ p b) →
+        (result.0.now ≡ take_while p text.now) × (result.1.now ≡ past p text.now) }
 {
     text.split_at(text.iter().take_while(|byte| belongs(**byte)).count())
 }
@@ -66,19 +65,17 @@ fn word_at(text: &[u8]) -> Result<(Token, &[u8]), Refusal>
     ensures { Cuts (word_at text.now) result }
 {
     let (letters, rest) = run(text, |byte| byte.is_ascii_uppercase());
-    let mark = word_of(letters).ok_or(Refusal::Grammar)?;
-    Ok((Token::Mark(mark), rest))
+    let symbol = word_of(letters).ok_or(Refusal::Grammar)?;
+    Ok((Token::Symbol(symbol), rest))
 }
 
 // The name that a text begins with, and the text after it.
 fn name_at(text: &[u8]) -> Result<(Token, &[u8]), Refusal>
     ensures { Cuts (name_at text.now) result }
 {
-    let (name, rest) = run(text, is_name_byte);
-    if !is_name(name) {
-        return Err(Refusal::Grammar);
-    }
-    Ok((Token::Name(Name::of(name)), rest))
+    let (word, rest) = run(text, is_name_byte);
+    let name = Name::new(word).ok_or(Refusal::Grammar)?;
+    Ok((Token::Name(name), rest))
 }
 
 // The token that a text begins with, and the text after it.
@@ -87,7 +84,7 @@ fn token_at(text: &[u8]) -> Result<(Token, &[u8]), Refusal>
     ensures { Cuts (token_at text.now) result }
 {
     match sign_of(char::from(text[0])) {
-        Some(sign) => Ok((Token::Mark(Mark::Sign(sign)), &text[1..])),
+        Some(sign) => Ok((Token::Symbol(Symbol::Sign(sign)), &text[1..])),
         None if text[0].is_ascii_uppercase() => word_at(text),
         None => name_at(text),
     }
@@ -101,14 +98,15 @@ fn past_spaces(text: &[u8]) -> &[u8]
     run(text, |byte| byte == b' ').1
 }
 
-// The tokens of a text, one after another. Bytes that are no token are refused, and nothing comes after them.
+/// The tokens of a text, one after another. Bytes that are no token are refused, and nothing comes
+/// after them.
 #[derive(Clone, Copy)]
 pub struct Lexer<'a> {
     rest: &'a [u8],
 }
 
 impl<'a> Lexer<'a> {
-    // Over the whole of a text.
+    /// Over the whole of a text.
     pub fn over(text: &'a [u8]) -> Lexer<'a>
         ensures { result.rest.now ≡ text.now }
     {

@@ -1,14 +1,16 @@
-use crate::mark::{Link, Operator, Quantifier};
-use base::action_set::ActionSet;
+use crate::symbol::{Link, Operator, Quantifier};
+use base::{ActionSet, Filler};
 
-// A part of an operator: the actions of its steps, and the number of the formula of the states that they reach.
+/// A part of an operator: the actions of its steps, and the number of the formula of the states
+/// that they reach.
 #[derive(Clone, Copy)]
 pub struct Part {
     pub actions: ActionSet,
     pub child: usize,
 }
 
-// A node of a formula: TRUE, FALSE, NOT, AND, OR, or an operator with its parts. Formulas below it stand as numbers of nodes.
+/// A node of a formula: TRUE, FALSE, NOT, AND, OR, or an operator with its parts. Formulas below it
+/// stand as numbers of nodes.
 #[derive(Clone, Copy)]
 pub enum Node {
     True,
@@ -26,4 +28,15 @@ pub enum Node {
         first: Part,
         second: Part,
     },
+}
+
+// What stands in the places of a table that are free.
+impl Filler for Node {
+    ghost use Rattle.formula.specs.declared.node.Node.TheVariants.{True};
+
+    ghost filler = { True };
+
+    fn filler() -> Node {
+        Node::True
+    }
 }

@@ -1,105 +1,107 @@
-use crate::node::Node;
-use base::few::Few;
+ghost use Rattle.std.specs.Prelude.{◌≤◌, length, map};
+ghost use Rattle.formula.specs.Shapes.{shape};
+ghost use Rattle.formula.specs.Tables.{Ascending, Ends, Apart};
 
-// The most nodes that there may be.
+use crate::node::Node;
+use base::BoundedVec;
+
+/// The most nodes that a table holds.
 pub const MOST_NODES: usize = 48;
 
-// The nodes of the formulas so far; each stands after those below it.
+/// The most formulas that a table holds.
+pub const MOST_FORMULAS: usize = 8;
+
+/// The nodes of at most 8 formulas, 48 nodes in all, and the number of each formula's last node,
+/// its root. The nodes of a formula follow those of the formula before it; each stands after those
+/// below it, which are nodes of the same formula.
 #[derive(Clone, Copy)]
 pub struct Nodes {
-    nodes: Few<Node, MOST_NODES>,
+    pub(crate) nodes: BoundedVec<Node, MOST_NODES>,
+    pub(crate) roots: BoundedVec<usize, MOST_FORMULAS>,
+    ghost few: { length nodes ≤ 48 },
+    ghost few_roots: { length roots ≤ 8 },
+    ghost ascending: { Ascending roots },
+    ghost ends: { Ends roots (map shape nodes) },
+    ghost apart: { Apart roots (map shape nodes) },
 }
 
-// A copy that a formula is written into; none once a node found no room.
-#[derive(Clone, Copy)]
-pub(crate) struct Draft {
-    pub(crate) nodes: Option<Nodes>,
-}
-
-// What a text that is not refused makes of the nodes, and the number of its formula.
-#[derive(Clone, Copy)]
-pub(crate) struct Entry {
-    pub(crate) nodes: Nodes,
-    pub(crate) root: usize,
+/// Where the nodes of a formula stand: the number of the first, and of the last, which is the
+/// formula's root.
+#[derive(Clone, Copy, PartialEq, Eq, Debug)]
+pub struct Span {
+    pub first: usize,
+    pub root: usize,
 }
 
 impl Nodes {
-    ghost use Rattle.std.specs.Prelude.{◌≡◌, ◌↔◌, ◌<◌, [], ◌∷◌, ◌++◌, length, map, IsSome, IfSome, OnSome};
+    ghost use Rattle.std.specs.Prelude.{◌≡◌, ◌↔◌, ◌<◌, ◌≤◌, [], ◌∷◌, ◌++◌, ◌-◌, length, IsSome, IfSome, OnSome};
     ghost use Rattle.std.specs.Option.{option_map};
     ghost use Rattle.std.specs.List.{slice_get};
-    ghost use Rattle.formula.specs.declared.nodes.TheConstants.{MOST_NODES};
-    ghost use Rattle.formula.specs.Laying.{shape, shapes};
+    ghost use Rattle.formula.specs.Nodes.{shapes, roots, SpanOf};
+    ghost use Rattle.formula.specs.Tables.{Extended};
 
-    // No node yet.
-    pub fn fresh() -> Nodes
-        ensures { shapes result ≡ [] }
+    /// No node yet, and no formula.
+    pub fn new() -> Nodes
+        ensures nodes { shapes result ≡ [] }
+        ensures formulas { roots result ≡ [] }
     {
         Nodes {
-            nodes: Few::none(Node::True),
+            nodes: BoundedVec::new(),
+            roots: BoundedVec::new(),
         }
     }
 
-    // How many nodes there are.
-    pub fn count(&self) -> usize
+    /// How many nodes there are.
+    pub fn len(&self) -> usize
         ensures { result ≡ length (shapes self.now) }
     {
         self.as_slice().len()
     }
 
-    // The nodes, each at its number.
+    /// How many formulas there are.
+    pub fn formulas(&self) -> usize
+        ensures { result ≡ length (roots self.now) }
+    {
+        self.roots.as_slice().len()
+    }
+
+    /// The nodes, each at its number.
     pub fn as_slice(&self) -> &[Node]
         ensures { map shape result.now ≡ shapes self.now }
     {
         self.nodes.as_slice()
     }
 
-    // The node of a number.
+    /// The node of a number.
     pub fn node(&self, number: usize) -> Option<Node>
         ensures { option_map shape result ≡ slice_get (shapes self.now) number }
     {
         self.as_slice().get(number).copied()
     }
 
-    // Writes a node past the others and says its number, if there is room.
-    fn add(&mut self, node: Node) -> Option<usize>
-        ensures variant { IsSome result ↔ (length (shapes self.old) < MOST_NODES) }
-        ensures after { OnSome result (shapes self.new ≡ shapes self.old ++ shape node ∷ []) }
-        ensures number { IfSome result (λ number. number ≡ length (shapes self.old)) }
+    /// Where the nodes of a formula stand, if there is a formula of that number.
+    pub fn span(&self, formula: usize) -> Option<Span>
+        ensures { SpanOf self.now formula result }
     {
-        let number = self.count();
-        self.nodes.push(node)?;
-        Some(number)
-    }
-}
-
-impl Draft {
-    ghost use Rattle.std.specs.Prelude.{◌≡◌, Some};
-    ghost use Rattle.formula.specs.Laying.{shape, shapes, drafted, push, top};
-
-    // Over the nodes so far.
-    pub(crate) fn over(nodes: &Nodes) -> Draft
-        ensures { drafted result ≡ Some (shapes nodes.now) }
-    {
-        Draft {
-            nodes: Some(*nodes),
-        }
-    }
-
-    // Writes a node and says its number, which is 0 where it found no room.
-    // kept: no `Option` for the number, since the reading goes on without room: a text that is no formula is refused for that first.
-    pub(crate) fn put(&mut self, node: Node) -> usize
-        ensures after { drafted self.new ≡ push (drafted self.old) (shape node) }
-        ensures number { result ≡ top (drafted self.new) }
-    {
-        let Some(nodes) = &mut self.nodes else {
-            return 0;
+        let roots = self.roots.as_slice();
+        let root = *roots.get(formula)?;
+        let first = match formula.checked_sub(1) {
+            Some(before) => roots[before] + 1,
+            None => 0,
         };
-        match nodes.add(node) {
-            Some(number) => number,
-            None => {
-                self.nodes = None;
-                0
-            }
-        }
+        Some(Span { first, root })
+    }
+
+    // With the nodes of one formula more, if there are fewer than eight.
+    pub(crate) fn with(&self, nodes: BoundedVec<Node, MOST_NODES>) -> Option<Nodes>
+        requires { Extended (shapes self.now) (map shape nodes) }
+        ensures variant { IsSome result ↔ (length (roots self.now) < MOST_FORMULAS) }
+        ensures nodes { IfSome result (λ n. shapes n ≡ map shape nodes) }
+        ensures formulas { IfSome result (λ n. roots n ≡ roots self.now
+            ++ (length (shapes n) - 1) ∷ []) }
+    {
+        let mut roots = self.roots;
+        roots.push(nodes.as_slice().len() - 1)?;
+        Some(Nodes { nodes, roots })
     }
 }

@@ -1,21 +1,21 @@
 ghost use Rattle.std.specs.Prelude.{◌≡◌, ◌≤◌, length, Some, None};
-ghost use Rattle.base.specs.Labels.{listed};
 ghost use Rattle.formula.specs.Building.{BuildsBy, Builds, BuildsPart};
 ghost use Rattle.formula.specs.Choosing.{IsSet};
-ghost use Rattle.formula.specs.Laying.{shape};
 ghost use Rattle.formula.specs.Levels.{operand, stage, node_of};
 ghost use Rattle.formula.specs.Places.{unread, ahead, moved};
 ghost use Rattle.formula.specs.Reading.{OrLevel, Tight, then, if_there, past_sign, in_group, with_formula, after_braces, part, two_parts};
+ghost use Rattle.formula.specs.Shapes.{shape};
 ghost use Rattle.formula.specs.Trees.{Acts, NOT, short};
-ghost use Rattle.formula.specs.declared.mark.Sign.TheVariants.{BracketOpen};
+ghost use Rattle.formula.specs.Vocabulary.{vocabulary};
+ghost use Rattle.formula.specs.declared.symbol.Sign.TheVariants.{BracketOpen};
 
 use crate::built::{Found, Joint, Level};
 use crate::cursor::Cursor;
-use crate::mark::{Mark, Operator, Quantifier, Sign};
+use crate::draft::Draft;
 use crate::node::{Node, Part};
-use crate::nodes::Draft;
+use crate::symbol::{Operator, Quantifier, Sign, Symbol};
 use crate::token::Token;
-use base::action_set::ActionSet;
+use base::ActionSet;
 
 impl Joint {
     // A node over two others.
@@ -31,7 +31,8 @@ impl Joint {
 
 impl<'a> Cursor<'a> {
     // Writes a formula, as far as a level reaches.
-    // kept: this, TRUE, FALSE, NOT and parentheses are in actions.rt too; one reader over a trait gets no proof, as they lead back to it.
+    // This, TRUE, FALSE, NOT and parentheses are in actions.rt too; one reader over a trait gets no
+    // proof, as they lead back to it.
     #[cycle(formulas)]
     pub(crate) fn formula(&self, level: Level, draft: &mut Draft) -> Option<Found<'a, usize>>
         ensures { Builds self.now draft.old draft.new (stage level) result }
@@ -44,7 +45,8 @@ impl<'a> Cursor<'a> {
             draft,
             |rest: &[Token], draft: &mut Draft| -> Option<Found<usize>>
                 requires { length (unread rest) ≤ length (ahead self.now) }
-                ensures { Builds (moved self.entry.now rest.entry) draft.entry.now draft.exit.now (stage (operand joint)) result }
+                ensures { Builds (moved self.entry.now rest.entry) draft.entry.now draft.exit.now
+                    (stage (operand joint)) result }
             { self.moved_to(rest).formula(joint.operand(), draft) },
             |left: usize, right: usize, draft: &mut Draft| draft.put(joint.node(left, right)),
         )
@@ -55,29 +57,30 @@ impl<'a> Cursor<'a> {
     fn tight(&self, draft: &mut Draft) -> Option<Found<'a, usize>>
         ensures { Builds self.now draft.old draft.new Tight result }
     {
-        let first = self.mark()?;
+        let first = self.symbol()?;
         let onward = self.moved_to(first.rest);
         match first.value {
-            Mark::True => Some(Found {
+            Symbol::True => Some(Found {
                 value: draft.put(Node::True),
                 rest: first.rest,
             }),
-            Mark::False => Some(Found {
+            Symbol::False => Some(Found {
                 value: draft.put(Node::False),
                 rest: first.rest,
             }),
-            Mark::Not => onward.negated(draft),
-            Mark::Sign(sign) => onward.grouped(sign, draft),
-            Mark::Short(operator) => onward.one_part(operator, draft),
-            Mark::Path(quantifier) => onward.two_parts(quantifier, draft),
-            Mark::Tau | Mark::Between(_) => None,
+            Symbol::Not => onward.negated(draft),
+            Symbol::Sign(sign) => onward.grouped(sign, draft),
+            Symbol::Short(operator) => onward.one_part(operator, draft),
+            Symbol::Path(quantifier) => onward.two_parts(quantifier, draft),
+            Symbol::Tau | Symbol::Between(_) => None,
         }
     }
 
     // What follows NOT.
     #[cycle(formulas)]
     fn negated(&self, draft: &mut Draft) -> Option<Found<'a, usize>>
-        ensures { BuildsBy self.now draft.old draft.new (λ r ts. then (r Tight ts) (λ t rest. Some (NOT t, rest))) result }
+        ensures { BuildsBy self.now draft.old draft.new
+            (λ r ts. then (r Tight ts) (λ t rest. Some (NOT t, rest))) result }
     {
         let inner = self.formula(Level::Tight, draft)?;
         Some(Found {
@@ -89,21 +92,26 @@ impl<'a> Cursor<'a> {
     // What follows a sign that opens parentheses.
     #[cycle(formulas)]
     fn grouped(&self, sign: Sign, draft: &mut Draft) -> Option<Found<'a, usize>>
-        ensures { BuildsBy self.now draft.old draft.new (λ r ts. in_group sign (r OrLevel ts)) result }
+        ensures { BuildsBy self.now draft.old draft.new
+            (λ r ts. in_group sign (r OrLevel ts)) result }
     {
         if sign != Sign::Open {
             return None;
         }
         let inner = self.formula(Level::Chain(Joint::Or), draft)?;
-        self.closed(inner, Sign::Close)
+        self.closed(&inner, Sign::Close)
     }
 
     // What follows a two-letter operator.
     #[cycle(formulas)]
     fn one_part(&self, operator: Operator, draft: &mut Draft) -> Option<Found<'a, usize>>
-        ensures { BuildsBy self.now draft.old draft.new (λ r ts. then (part (r Tight) ts) (λ p rest. Some (short operator p.0 p.1, rest))) result }
+        ensures { BuildsBy self.now draft.old draft.new
+            (λ r ts. then (part (r Tight) ts) (λ p rest. Some (short operator p.0 p.1, rest)))
+            result }
     {
-        let inner = self.part(Level::Tight, draft)?;
+        let Some(inner) = self.part(Level::Tight, draft) else {
+            return None;
+        };
         let node = Node::Short {
             operator,
             part: inner.value,
@@ -117,15 +125,24 @@ impl<'a> Cursor<'a> {
     // What follows E or A: two parts in brackets, with U or W between them.
     #[cycle(formulas)]
     fn two_parts(&self, quantifier: Quantifier, draft: &mut Draft) -> Option<Found<'a, usize>>
-        ensures { BuildsBy self.now draft.old draft.new (λ r ts. if_there (past_sign BracketOpen ts) (two_parts (r OrLevel) quantifier) None) result }
+        ensures { BuildsBy self.now draft.old draft.new
+            (λ r ts. if_there (past_sign BracketOpen ts) (two_parts (r OrLevel) quantifier) None)
+            result }
     {
         let inside = self.after(Sign::BracketOpen)?;
-        let first = self.moved_to(inside).part(Level::Chain(Joint::Or), draft)?;
+        let Some(first) = self.moved_to(inside).part(Level::Chain(Joint::Or), draft) else {
+            return None;
+        };
         let link = self.moved_to(first.rest).link()?;
-        let second = self
+        let Some(second) = self
             .moved_to(link.rest)
-            .part(Level::Chain(Joint::Or), draft)?;
-        let second = self.closed(second, Sign::BracketClose)?;
+            .part(Level::Chain(Joint::Or), draft)
+        else {
+            return None;
+        };
+        let Some(second) = self.closed(&second, Sign::BracketClose) else {
+            return None;
+        };
         let node = Node::Path {
             quantifier,
             link: link.value,
@@ -146,7 +163,9 @@ impl<'a> Cursor<'a> {
         let Some(inside) = self.after(Sign::BraceOpen) else {
             return self.with_formula(ActionSet::all(), level, draft);
         };
-        let braces = self.moved_to(inside).braced()?;
+        let Some(braces) = self.moved_to(inside).braced() else {
+            return None;
+        };
         self.moved_to(braces.rest)
             .after_braces(braces.value, level, draft)
     }
@@ -159,7 +178,8 @@ impl<'a> Cursor<'a> {
         level: Level,
         draft: &mut Draft,
     ) -> Option<Found<'a, Part>>
-        ensures { (c : Acts) → IsSet (listed self.now.labels.now) c actions → BuildsPart self.now draft.old draft.new (λ r. after_braces (r (stage level)) c) result }
+        ensures { (c : Acts) → IsSet (vocabulary self.now.names) c actions →
+            BuildsPart self.now draft.old draft.new (λ r. after_braces (r (stage level)) c) result }
     {
         if self.can_begin() {
             return self.with_formula(actions, level, draft);
@@ -179,7 +199,8 @@ impl<'a> Cursor<'a> {
         level: Level,
         draft: &mut Draft,
     ) -> Option<Found<'a, Part>>
-        ensures { (c : Acts) → IsSet (listed self.now.labels.now) c actions → BuildsPart self.now draft.old draft.new (λ r. with_formula (r (stage level)) c) result }
+        ensures { (c : Acts) → IsSet (vocabulary self.now.names) c actions →
+            BuildsPart self.now draft.old draft.new (λ r. with_formula (r (stage level)) c) result }
     {
         let inner = self.formula(level, draft)?;
         Some(Found {

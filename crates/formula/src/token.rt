@@ -1,22 +1,22 @@
 ghost use Rattle.std.specs.Prelude.{◌≡◌};
-ghost use Rattle.formula.specs.declared.mark.Mark.TheVariants.{True};
-ghost use Rattle.formula.specs.declared.token.Token.TheVariants.{Mark};
+ghost use Rattle.formula.specs.declared.symbol.Symbol.TheVariants.{True};
+ghost use Rattle.formula.specs.declared.token.Token.TheVariants.{Symbol};
 
-use crate::mark::Mark;
-use base::name::Name;
+use crate::symbol::Symbol;
+use base::Name;
 
-// What a text is made of, spaces apart.
+/// What a text is made of, spaces apart.
 #[derive(Clone, Copy)]
 pub enum Token {
-    Mark(Mark),
+    Symbol(Symbol),
     Name(Name),
 }
 
 // What stands in the unused places of a list of tokens.
 impl Default for Token {
-    ghost is_default = { λ t. t ≡ Mark True };
+    ghost is_default = { λ t. t ≡ Symbol True };
 
     fn default() -> Token {
-        Token::Mark(Mark::True)
+        Token::Symbol(Symbol::True)
     }
 }

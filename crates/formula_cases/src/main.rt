@@ -1,12 +1,10 @@
-// Reads a table of formulas, one a line of standard input, and prints the nodes that each makes or why it is refused. In a line \xHH stands
-// for the byte with that hexadecimal number. The label list is tau, a, b, c and abcdefghijklmnop.
+// Reads a table of formulas, one a line of standard input, and prints the nodes that each makes or
+// why it is refused. In a line \xHH stands for the byte with that hexadecimal number. The label
+// list is tau, a, b, c and abcdefghijklmnop.
 #![tactic(auto)]
 
-use base::action_set::{ACTIONS, ActionSet};
-use base::labels::Labels;
-use formula::enter::enter;
-use formula::node::{Node, Part};
-use formula::nodes::Nodes;
+use base::{ACTIONS, ActionSet, Labels, Name, Refusal};
+use formula::{Node, Nodes, Part, enter};
 use std::alloc::{AllocError, Global};
 use std::{fmt, io};
 
@@ -19,7 +17,8 @@ fn hex(digit: u8) -> u8 {
     }
 }
 
-// The bytes that a line stands for. Whatever follows a backslash counts as the x; a number that the line cuts short is no byte.
+// The bytes that a line stands for. Whatever follows a backslash counts as the x; a number that the
+// line cuts short is no byte.
 fn decode(heap: Global, line: &str) -> Result<Vec<u8>, AllocError> {
     let mut text = Vec::new(heap);
     let mut rest = line.as_bytes();
@@ -42,10 +41,10 @@ struct Actions(ActionSet);
 impl fmt::Display for Actions {
     fn fmt<W: fmt::Write>(&self, f: &mut fmt::Formatter<W>) -> fmt::Result {
         let Actions(set) = *self;
-        let most = set.has(ACTIONS - 1);
+        let most = set.contains(ACTIONS - 1);
         write!(f, "{}", if most { "~{" } else { "{" })?;
         for action in 0..ACTIONS {
-            if set.has(action) != most {
+            if set.contains(action) != most {
                 write!(f, " {action}")?;
             }
         }
@@ -94,26 +93,36 @@ impl fmt::Display for Shown {
 
 // Prints what a text makes of a table with no node.
 fn run(rt: &HostRuntime, text: &[u8], labels: &Labels) -> io::Result<()> {
-    let mut nodes = Nodes::fresh();
+    let mut nodes = Nodes::new();
     match enter(&mut nodes, text, labels) {
-        Ok(root) => {
+        Ok(formula) => {
             for (number, node) in nodes.as_slice().iter().enumerate() {
                 let node = Shown(*node);
                 print!(rt; "{number}: {node}; ")?;
             }
+            let root = nodes.span(formula).map_or(0, |span| span.root);
             println!(rt; "formula {root}")
         }
         Err(why) => {
             let number = why.number();
-            let left = nodes.count();
+            let left = nodes.len();
             println!(rt; "refused {number}, {left} nodes")
         }
     }
 }
 
+// The names that all lines are read by.
+fn label_list() -> Result<Labels, Refusal> {
+    let mut labels = Labels::new();
+    for name in &["a", "b", "c", "abcdefghijklmnop"] {
+        labels.add(Name::new(name.as_bytes()).ok_or(Refusal::Garbled)?)?;
+    }
+    Ok(labels)
+}
+
 // Each line is a text of its own, read by the same labels.
 fn main(rt: HostRuntime) -> anyhow::Result<()> {
-    let labels = Labels::of(&["a", "b", "c", "abcdefghijklmnop"])?;
+    let labels = label_list()?;
     for line in rt.lines(rt.alloc()) {
         let line = line?;
         let text = decode(rt.alloc(), line.as_str())?;

@@ -1,7 +1,8 @@
+pub mod Markings
+pub mod Operators
+pub mod Orders
+pub mod Rightly
 pub mod Slots
+pub mod Sweeping
 pub mod Turning
 pub mod Writing
-pub mod Orders
-pub mod Sweeping
-pub mod Operators
-pub mod Rightly

@@ -1,4 +1,3 @@
-pub mod Meant
 pub mod Steps
 pub mod Writes
 pub mod Sweeps

@@ -1,11 +1,16 @@
-// Marking: writes on a sheet of a shelf the states at which the formula of a node holds, from the sheets of its children.
+// Marking: writes on the sheets of a shelf the states at which the nodes of a formula hold.
 #![tactic(auto)]
 
-pub mod count;
-pub mod decoded;
+pub mod counting;
+pub mod formula_marks;
+pub mod marked_part;
 mod marks;
-pub mod node;
-mod part;
-mod path_formula;
+mod node;
+pub mod path_formula;
 mod search;
 mod steps;
+
+pub use counting::count;
+pub use formula_marks::mark;
+pub use marked_part::MarkedPart;
+pub use path_formula::PathFormula;

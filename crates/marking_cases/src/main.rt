@@ -1,27 +1,14 @@
-// Marks a table of formulas, one a line of standard input, on six models with both shelves, and prints at which states of each model a
-// formula holds. The last model is a grid with the transitions of the joined one before it.
+// Marks a table of formulas, one a line of standard input, on six models with both shelves, and
+// prints at which states of each model a formula holds. The last model is a grid with the
+// transitions of the joined one before it.
 #![tactic(auto)]
 
-use aut::copy::copy_through_text;
-use aut::header::Header;
-use aut::reader::read;
-use base::action_set::ActionSet;
-use base::labels::Labels;
-use base::refusal::Refusal;
-use formula::enter::enter;
-use formula::nodes::Nodes;
-use marking::count::count;
-use marking::node::mark;
-use model::cell::Cell;
-use model::grid::Grid;
-use model::joined::Joined;
-use model::joining::join;
-use model::question::Model;
-use model::retry_counter::RetryCounter;
-use model::size::Size;
-use shelf::bit_shelf::BitShelf;
-use shelf::column_shelf::ColumnShelf;
-use shelf::shelf::Shelf;
+use aut::{Header, read, write};
+use base::{ActionSet, Labels, Name, Refusal};
+use formula::{Nodes, enter};
+use marking::{count, mark};
+use model::{Cell, Grid, Joined, RetryCounter, Size, TransitionSystem, join};
+use shelf::{BitShelf, ColumnShelf, Shelf};
 use std::{array, io};
 
 // No model here has more states.
@@ -53,21 +40,23 @@ struct Marks {
     count: usize,
 }
 
-// Marks each node on the sheet of its number, and answers the marks of the last.
-// kept: bench_api has the loop too; marking a whole formula is left to the study to come, and a crate for three lines is no plainer.
-fn mark_all<M: Model, S: Shelf>(model: &M, shelf: &mut S, nodes: &Nodes) -> Result<Marks, Refusal> {
-    for (number, node) in nodes.as_slice().iter().enumerate() {
-        mark(model, shelf, *node, number)?;
-    }
-    let last = nodes.count().saturating_sub(1);
+// Marks the formula, and answers the marks of its last node.
+fn mark_all<M: TransitionSystem, S: Shelf>(
+    model: &M,
+    shelf: &mut S,
+    nodes: &Nodes,
+) -> Result<Marks, Refusal> {
+    mark(model, shelf, nodes, 0)?;
+    let last = nodes.len().saturating_sub(1);
     Ok(Marks {
         on: array::from_fn(|state| shelf.look(last, state)),
         count: count(shelf, last),
     })
 }
 
-// The marks on a shelf of bits and on a shelf of columns, both opened over memory that is not blank.
-fn on_both<M: Model>(model: &M, nodes: &Nodes) -> Result<(Marks, Marks), Refusal> {
+// The marks on a shelf of bits and on a shelf of columns, both opened over memory that is not
+// blank.
+fn on_both<M: TransitionSystem>(model: &M, nodes: &Nodes) -> Result<(Marks, Marks), Refusal> {
     let mut bytes = [255; BYTES];
     let mut columns = [u64::MAX; MOST_STATES];
     let mut bits = BitShelf::open(&mut bytes, model.states());
@@ -78,7 +67,12 @@ fn on_both<M: Model>(model: &M, nodes: &Nodes) -> Result<(Marks, Marks), Refusal
 }
 
 // Prints the marks of the last node on a model, and where the shelves differ.
-fn show<M: Model>(rt: &HostRuntime, name: &str, model: &M, nodes: &Nodes) -> io::Result<()> {
+fn show<M: TransitionSystem>(
+    rt: &HostRuntime,
+    name: &str,
+    model: &M,
+    nodes: &Nodes,
+) -> io::Result<()> {
     let (bits, columns) = match on_both(model, nodes) {
         Ok(both) => both,
         Err(why) => return println!(rt; "  {name}: refused {}", why.number()),
@@ -104,16 +98,25 @@ struct Models {
     pair: Joined<RetryCounter, RetryCounter>,
 }
 
+// The names of the actions.
+fn actions() -> Result<Labels, Refusal> {
+    let mut labels = Labels::new();
+    for name in &["meas", "send", "add", "ack", "lost", "quit", "poll", "drop"] {
+        labels.add(Name::new(name.as_bytes()).ok_or(Refusal::Garbled)?)?;
+    }
+    Ok(labels)
+}
+
 // The counter, the joined model of two others, and the names of their actions.
 fn make_models() -> Result<Models, Refusal> {
-    let labels = Labels::of(&["meas", "send", "add", "ack", "lost", "quit", "poll", "drop"])?;
+    let labels = actions()?;
     let counter = RetryCounter::new(7, 2, 4, 6)?;
     let sender = RetryCounter::new(2, 2, 4, 6)?;
     let poller = RetryCounter::new(2, 7, 4, 8)?;
     Ok(Models {
         labels,
         counter,
-        pair: join(sender, poller, ActionSet::only(4)).map_err(|apart| apart.why)?,
+        pair: join(sender, poller, ActionSet::from_action(4)).map_err(|error| error.why)?,
     })
 }
 
@@ -142,18 +145,20 @@ impl Held {
         Ok(Held::by(header, cells, 2))
     }
 
-    // By way of the text of a model.
-    fn copy<M: Model>(model: &M, labels: &mut Labels) -> Result<Held, Refusal> {
+    // Out of the text of a model.
+    fn copy<M: TransitionSystem>(model: &M, labels: &mut Labels) -> Result<Held, Refusal> {
         let mut room = [0; ROOM];
         let mut cells = [Cell::EMPTY; CELLS];
         let slots = model.slots();
-        let header = copy_through_text(model, labels, &mut room, &mut cells, slots)?;
+        let length = write(model, labels, &mut room)?;
+        let text = room.get(..length).unwrap_or(&[]);
+        let header = read(text, labels, &mut cells, slots)?;
         Ok(Held::by(header, cells, slots))
     }
 
     // Prints the marks of the last node on the grid over the cells.
     fn show(&self, rt: &HostRuntime, name: &str, nodes: &Nodes) -> io::Result<()> {
-        match Grid::over(&self.cells, self.size, self.start) {
+        match Grid::new(&self.cells, self.size, self.start) {
             Ok(grid) => show(rt, name, &grid, nodes),
             Err(why) => println!(rt; "  {name}: refused {}", why.number()),
         }
@@ -196,7 +201,7 @@ fn main(rt: HostRuntime) -> anyhow::Result<()> {
     for line in rt.lines(rt.alloc()) {
         let line = line?;
         println!(rt; "{line}")?;
-        let mut nodes = Nodes::fresh();
+        let mut nodes = Nodes::new();
         match enter(&mut nodes, line.as_bytes(), &models.labels) {
             Ok(_) => run(&rt, &models, &nodes, &texts)?,
             Err(why) => println!(rt; "  refused {}", why.number())?,

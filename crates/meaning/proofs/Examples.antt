@@ -6,7 +6,7 @@ use Rattle.meaning.specs.Examples.{single, WorkedExamples, AgSkips}
 use Rattle.meaning.proofs.Reference.{reference_right}
 
 pub worked_examples : WorkedExamples
-worked_examples = (refl, refl, refl)
+worked_examples = (refl, refl)
 
 pub ag_skips : AgSkips
 ag_skips = (

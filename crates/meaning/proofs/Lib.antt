@@ -6,10 +6,14 @@ pub mod Operators
 pub mod Lassos
 pub mod Deciding
 pub mod Lightest
+pub mod Weighing
+pub mod Peaks
+pub mod Verdicts
 pub mod Turns
 pub mod Reference
 pub mod Least
 pub mod Agreeing
+pub mod Alike
 pub mod Derived
 pub mod Examples
 pub mod Counters

@@ -5,8 +5,11 @@ pub mod Formula
 pub mod Deciding
 pub mod Sets
 pub mod Weights
+pub mod Scales
+pub mod DecidingPaths
 pub mod Sheets
 pub mod Reference
+pub mod Verdicts
 pub mod Laws
 pub mod Examples
 pub mod Retries

@@ -1,18 +1,12 @@
-use base::action_set::ActionSet;
-use base::refusal::Refusal;
-use model::cell::Cell;
-use model::deadlock::deadlocks;
-use model::grid::Grid;
-use model::joining::{join, join_refusal};
-use model::question::Model;
-use model::retry_counter::RetryCounter;
-use model::size::Size;
+use base::{ActionSet, Refusal};
+use model::{Cell, Grid, RetryCounter, Size, TransitionSystem, deadlocks, join, join_refusal};
 use std::test::Fail;
 
 // The action that is shared.
 const ACK: u8 = 2;
 
-// Two states with one slot each: an acknowledgement leads from the first to the second, and action 9 back.
+// Two states with one slot each: an acknowledgement leads from the first to the second, and action
+// 9 back.
 const TWO_STATES: [Cell; 2] = [
     Cell {
         filled: true,
@@ -31,7 +25,7 @@ const TWO_STATES: [Cell; 2] = [
 fn two_counters(rt: HostRuntime) -> Result<(), Fail> {
     let left = RetryCounter::new(1, 1, ACK, 3)?;
     let right = RetryCounter::new(1, 4, ACK, 5)?;
-    let pair = join(left, right, ActionSet::only(ACK))?;
+    let pair = join(left, right, ActionSet::from_action(ACK))?;
     assert_eq!(rt; pair.slots(), 15);
     assert_eq!(rt; pair.slot(0, 0), Some((1, 2)));
     assert_eq!(rt; pair.slot(1, 5), Some((5, 0)));
@@ -44,7 +38,7 @@ fn two_counters(rt: HostRuntime) -> Result<(), Fail> {
 // Three counters that are answered together: a joined model is joined again.
 #[test]
 fn three_counters(rt: HostRuntime) -> Result<(), Fail> {
-    let ack = ActionSet::only(ACK);
+    let ack = ActionSet::from_action(ACK);
     let first = RetryCounter::new(1, 1, ACK, 3)?;
     let second = RetryCounter::new(1, 4, ACK, 5)?;
     let third = RetryCounter::new(1, 6, ACK, 7)?;
@@ -66,8 +60,11 @@ fn lent_grid(rt: HostRuntime) -> Result<(), Fail> {
         states: 2,
         slots: 1,
     };
-    let grid = Grid::over(&TWO_STATES, size, 0)?;
-    let both = join(&grid, counter, ActionSet::only(ACK))?;
+    let grid = Grid::new(&TWO_STATES, size, 0)?;
+    // no `?`, which gets no proof on a value that holds a reference beside a set of actions
+    let Ok(both) = join(&grid, counter, ActionSet::from_action(ACK)) else {
+        return Err(Fail::from(Refusal::TooBig));
+    };
     assert_eq!(rt; both.states(), 6);
     assert_eq!(rt; both.slots(), 7);
     assert_eq!(rt; both.slot(0, 0), None);
@@ -79,22 +76,22 @@ fn lent_grid(rt: HostRuntime) -> Result<(), Fail> {
 #[test]
 fn refused(rt: HostRuntime) -> Result<(), Fail> {
     let counter = RetryCounter::new(255, 1, ACK, 3)?;
-    let pair = join(counter, counter, ActionSet::none())?;
+    let pair = join(counter, counter, ActionSet::empty())?;
     assert_eq!(rt;
-        join_refusal(&pair, &counter, ActionSet::none()),
+        join_refusal(&pair, &counter, ActionSet::empty()),
         Some(Refusal::TooBig)
     );
     assert_eq!(rt;
         join(counter, counter, ActionSet::all())
             .err()
-            .map(|apart| apart.why),
+            .map(|error| error.why),
         Some(Refusal::Silent)
     );
     let one = Size {
         states: 1,
         slots: 1,
     };
-    let lone = Grid::over(&[Cell::EMPTY], one, 0)?;
+    let lone = Grid::new(&[Cell::EMPTY], one, 0)?;
     assert_eq!(rt; deadlocks(&lone), lone.states());
     Ok(())
 }

@@ -31,4 +31,8 @@ returns c =
     let long : length input - length body + (length body - length rest) ≡ length input - length rest = omega (arith, within, c.in_ok-rest.ensures.1) in
     let whole : option_map (λ j. length input - length body + j) (lines_length h.transitions body) ≡ Some (length input - length rest) =
     ap (option_map (λ j. length input - length body + j)) c.in_ok-rest.ensures.0 ∙ ap Some long in
-    (front_made input h body first (length input - length rest) whole, λ m k. same_Some _ _ (sym (front-is input h body first m k) ∙ whole), omega arith)
+    record {
+      front = front_made input h body first (length input - length rest) whole;
+      only = λ m k. same_Some _ _ (sym (front-is input h body first m k) ∙ whole);
+      inside = omega arith;
+    }

@@ -1,8 +1,9 @@
 use Rattle.std.proofs.Common.{of_calls, ◌≡◌, Some, None, sym, refl, ap, subst, arith}
-use Rattle.base.specs.Labels.{listed}
-use Rattle.formula.specs.declared.mark.Mark.TheVariants.{True, False, Not, Short, Path, Sign as signed}
+use Rattle.formula.specs.Vocabulary.{vocabulary}
+use Rattle.formula.specs.declared.symbol.Symbol.TheVariants.{True, False, Not, Short, Path, Sign as signed}
 use Rattle.formula.specs.Building.{Laid, BuildsPart}
-use Rattle.formula.specs.Laying.{drafted, push, top, not_node}
+use Rattle.formula.specs.Laying.{drafted, push, top}
+use Rattle.formula.specs.Shapes.{not_node}
 use Rattle.formula.specs.Levels.{stage, node_of}
 use Rattle.formula.specs.Places.{ahead, Linked}
 use Rattle.formula.specs.Reading.{OrLevel, Tight, then, read, part, link, formula_rules}
@@ -15,7 +16,7 @@ use Rattle.formula.proofs.cursor.+formulas.Goals as goal
 
 pub Cursor::formula-returns : goal.Cursor::formula-returns
 Cursor::formula-returns t c =
-    let names = listed c.args.self.now.labels.now in let j = c.in-Chain.joint in
+    let names = vocabulary c.args.self.now.names in let j = c.in-Chain.joint in
     rw c.in-Chain.is
     (level_chain formula_rules j c.args.self.now (Laid names) _ _ (λ at s r s' o. rw (sym o.2, sym o.4) o.3)
     (λ x y s t u u' v w z h k i.
@@ -28,7 +29,7 @@ Cursor::negated-returns t c =
       NOT d.0,
       (λ n h. ap (λ g. then g (λ u rest. Some (NOT u, rest))) (d.1 n (omega arith))),
       (
-        layings.one_below (listed c.args.self.now.labels.now) not_node d.0 (drafted c.args.draft.now) _ (drafted c.put.new.self) c.in_ok-inner.inner.value d.2.0 d.2.1 c.put.ensures.after,
+        layings.one_below (vocabulary c.args.self.now.names) not_node d.0 (drafted c.args.draft.now) _ (drafted c.put.new.self) c.in_ok-inner.inner.value d.2.0 d.2.1 c.put.ensures.after,
         c.put.ensures.number,
       ),
       d.3,
@@ -36,11 +37,11 @@ Cursor::negated-returns t c =
 
 pub Cursor::one_part-returns : goal.Cursor::one_part-returns
 Cursor::one_part-returns t c =
-    let d = c.in_ok-inner.ensures in let y = c.in_ok-inner.inner.value in let u = d.0 in (
+    let d = c.in-Some.ensures in let y = c.in-Some.inner.value in let u = d.0 in (
       short c.args.operator u.0 u.1,
       (λ n h. ap (λ g. then g (λ p rest. Some (short c.args.operator p.0 p.1, rest))) (d.1 n h)),
       (
-        layings.laid-short (listed c.args.self.now.labels.now) c.args.operator u.0 u.1 y.actions (drafted c.args.draft.now) (drafted c.part.new.draft)
+        layings.laid-short (vocabulary c.args.self.now.names) c.args.operator u.0 u.1 y.actions (drafted c.args.draft.now) (drafted c.part.new.draft)
             (drafted c.put.new.self) y.child d.2.1 d.2.0.0 d.2.0.1 c.put.ensures.after,
         c.put.ensures.number,
       ),
@@ -50,16 +51,16 @@ Cursor::one_part-returns t c =
 pub Cursor::two_parts-returns : goal.Cursor::two_parts-returns
 Cursor::two_parts-returns t c =
     let s = c.args.self.now in let q = c.args.quantifier in let l = c.in_ok-link.link.value in let on = c.in_ok-link.link.rest in
-    let first = c.in_ok-first.first in let second = c.in_ok-second.second in let a = c.in_ok-inside.ensures in
-    let d = subst (λ x. BuildsPart x c.args.draft.now c.part.new.draft (λ r. part (r OrLevel)) (Some first)) c.moved_to.ensures c.in_ok-first.ensures in
+    let first = c.in-Some.first in let second = c.in-Some-part.second in let a = c.in_ok-inside.ensures in
+    let d = subst (λ x. BuildsPart x c.args.draft.now c.part.new.draft (λ r. part (r OrLevel)) (Some first)) c.moved_to.ensures c.in-Some.ensures in
     let e = subst (λ x. Linked (ahead x) (link (ahead x)) (Some c.in_ok-link.link)) c.moved_to-2.ensures c.in_ok-link.ensures in
-    let f = subst (λ x. BuildsPart x c.part.new.draft c.part-2.new.draft (λ r. part (r OrLevel)) (Some second)) c.moved_to-3.ensures c.in_ok-second.ensures in
-    let last = c.in_ok-second-2.second in let g = c.in_ok-second-2.ensures in
+    let f = subst (λ x. BuildsPart x c.part.new.draft c.part-2.new.draft (λ r. part (r OrLevel)) (Some second)) c.moved_to-3.ensures c.in-Some-part.ensures in
+    let last = c.in-Some-closed.second in let g = c.in-Some-closed.ensures in
     let p = d.0 in let u = f.0 in (
       path q l p.0 p.1 u.0 u.1,
       buildings.bracketed s q l p u c.in_ok-inside.inside first.rest on second.rest last.rest a.0 a.1 d.1 d.3 e.0 e.1 f.1 g.0,
       (
-        layings.laid-path (listed s.labels.now) q l p.0 u.0 p.1 u.1 first.value.actions last.value.actions (drafted c.args.draft.now) (drafted c.part.new.draft)
+        layings.laid-path (vocabulary s.names) q l p.0 u.0 p.1 u.1 first.value.actions last.value.actions (drafted c.args.draft.now) (drafted c.part.new.draft)
             (drafted c.part-2.new.draft) (drafted c.put.new.self) first.value.child last.value.child d.2.1 (rw g.2 f.2.1) d.2.0.0 d.2.0.1 f.2.0.0 (rw g.2 f.2.0.1) c.put.ensures.after,
         c.put.ensures.number,
       ),
@@ -73,8 +74,8 @@ Cursor::part-returns-in_default t c =
 
 pub Cursor::part-returns : goal.Cursor::part-returns
 Cursor::part-returns t c =
-    buildings.with_braces c.args.self.now c.moved_to.result c.moved_to-2.result c.args.draft.now c.after_braces.new.draft c.args.level c.in-Some.inside c.in_ok-braces.braces
-    c.after_braces.result c.moved_to.ensures c.moved_to-2.ensures c.in-Some.ensures.0 c.in-Some.ensures.1 c.in_ok-braces.ensures c.after_braces.ensures
+    buildings.with_braces c.args.self.now c.moved_to.result c.moved_to-2.result c.args.draft.now c.after_braces.new.draft c.args.level c.in-Some.inside c.in-Some-braced.braces
+    c.after_braces.result c.moved_to.ensures c.moved_to-2.ensures c.in-Some.ensures.0 c.in-Some.ensures.1 c.in-Some-braced.ensures c.after_braces.ensures
 
 pub Cursor::after_braces-returns : goal.Cursor::after_braces-returns
 Cursor::after_braces-returns t c = λ k h. (

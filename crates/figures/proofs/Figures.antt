@@ -1,0 +1,68 @@
+-- The table, computed.
+use Rattle.std.proofs.Common.{codes, refl}
+use Rattle.std.specs.List.{All}
+use Rattle.meaning.specs.Examples.{upload, lone}
+use Rattle.meaning.specs.Weights.{airtime, peak}
+use Rattle.meaning.proofs.Deadlocks.{deadlock_test}
+use Rattle.formula.specs.Reading.{read, in_braces, tree_of}
+use Rattle.figures.specs.Claims.{IsRight, HasNodes, IsJoin}
+use Rattle.figures.specs.Table.{upload_labels, upload_rows, lone_labels, lone_rows, joins}
+use Rattle.figures.specs.Table.{WorkedFigures}
+use Rattle.figures.proofs.Rows.{all_of, right_by, nodes_by, weighs_by}
+
+at_upload : All (IsRight upload upload_labels) upload_rows
+unfolding read in_braces tree_of
+at_upload =
+    all_of (IsRight upload upload_labels) upload_rows (
+      right_by _ _ _ _ _ refl refl refl refl,
+      (
+        right_by _ _ _ _ _ refl refl refl refl,
+        (
+          right_by _ _ _ _ _ refl refl refl refl,
+          (right_by _ _ _ _ _ refl refl refl refl, tt),
+        ),
+      ),
+    )
+
+at_lone : All (IsRight lone lone_labels) lone_rows
+unfolding read in_braces tree_of
+at_lone =
+    all_of (IsRight lone lone_labels) lone_rows (
+      right_by _ _ _ _ _ refl refl refl refl,
+      (
+        right_by _ _ _ _ _ refl refl refl refl,
+        (
+          right_by _ _ _ _ _ refl refl refl refl,
+          (right_by _ _ _ _ _ refl refl refl refl, tt),
+        ),
+      ),
+    )
+
+at_limits : All IsJoin joins
+at_limits =
+    all_of IsJoin joins (
+      record { states = refl; slots = refl; fits = refl },
+      (
+        record { states = refl; slots = refl; fits = refl },
+        (
+          record { states = refl; slots = refl; fits = refl },
+          (record { states = refl; slots = refl; fits = refl }, tt),
+        ),
+      ),
+    )
+
+nodes : HasNodes (codes "EX {a}") 2
+unfolding read in_braces tree_of
+nodes = nodes_by _ _ _ refl refl
+
+pub worked_figures : WorkedFigures
+worked_figures = record {
+  at_upload = record { numbers = refl; each = at_upload };
+  at_lone = record { numbers = refl; each = at_lone };
+  deadlocked = (deadlock_test lone lone.start).0 refl;
+  two_of_three = refl;
+  at_limits = at_limits;
+  nodes = nodes;
+  by_airtime = weighs_by airtime _ _ refl;
+  by_peak = weighs_by peak _ _ refl;
+}

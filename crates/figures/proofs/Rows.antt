@@ -1,0 +1,82 @@
+-- A row is right by the reader's way through its text, and by the reference evaluator.
+use Rattle.std.proofs.Common.{◌≡◌, ℕ, zero, suc, ◌+◌, ◌≤◌, ◌<◌, Bool, true, cond}
+use Rattle.std.proofs.Common.{List, [], ◌∷◌, map, fold, Some, Decides, refl, ap, ◌∙◌, subst, arith}
+use Rattle.std.specs.List.{All, AllByRecursion}
+use Rattle.std.proofs.lemmas.Bool.Decides.{same_from_decides}
+use Rattle.std.proofs.lemmas.List.Elements.{All-nil, All-cons}
+use Rattle.meaning.specs.Deciding.{Step}
+use Rattle.meaning.specs.Formula.{Holds}
+use Rattle.meaning.specs.Lts.{Lts, count_below}
+use Rattle.meaning.specs.Reference.{marks}
+use Rattle.meaning.specs.Verdicts.{Verdict, verdict, share, total, count_of}
+use Rattle.meaning.specs.Weights.{weigh}
+use Rattle.meaning.proofs.Reference.{reference_right}
+use Rattle.formula.specs.Checking.{all_listed}
+use Rattle.formula.specs.Formulas.{by_names, size}
+use Rattle.formula.specs.Reading.{tree_of}
+use Rattle.formula.specs.Tokens.{Tok, tokens_of}
+use Rattle.formula.specs.Trees.{Tree}
+use Rattle.formula.specs.Vocabulary.{by_labels}
+use Rattle.formula.proofs.Entries.{listed}
+use Rattle.formula.proofs.Readings.{agreement}
+use Rattle.figures.specs.Claims.{Row, IsRight, HasNodes, Weighs}
+
+pub all_of : {X : Type 0} (P : X → Type 0) (xs : List X) → AllByRecursion P xs → All P xs
+all_of P [] h = All-nil P
+all_of P (x ∷ xs) h = All-cons P x xs h.0 (all_of P xs h.1)
+
+-- Two sets that agree below n have as many numbers there.
+same_count : (X Y : ℕ → Bool) (n : ℕ) → ((s : ℕ) → s < n → X s ≡ Y s)
+    → count_below X n ≡ count_below Y n
+same_count X Y zero h = refl
+same_count X Y (suc n) h =
+    ap (λ (b : Bool). count_below X n + cond b 1 0) (h n (omega arith))
+    ∙ ap (λ (k : ℕ). k + cond (Y n) 1 0) (same_count X Y n (λ s l. h s (omega arith)))
+
+-- Sets that agree at every state give the same verdict.
+same_verdict : (M : Lts) (X Y : ℕ → Bool) → ((s : ℕ) → s < M.states → X s ≡ Y s)
+    → verdict M X ≡ verdict M Y
+same_verdict M X Y h =
+    ap (λ (b : Bool). said b (count_of M X)) (h M.start M.begins)
+    ∙ ap (λ (n : ℕ). said (Y M.start) n) (same_count X Y M.states h)
+  where
+    said : Bool → ℕ → Verdict
+    said b n = record { holds = b; count = n; total = total M; share = share n (total M) }
+
+-- What the reader makes of a text is what the grammar says it is, and what the reference evaluator
+-- marks is where it holds.
+pub right_by : (M : Lts) (labels : List (List ℕ)) (r : Row) (ts : List Tok) (t : Tree)
+    → tokens_of r.text ≡ Some ts → tree_of ts ≡ Some t → true ≡ all_listed (by_labels labels) ts
+    → verdict M (marks M (by_names (by_labels labels) t)) ≡ r.verdict
+    → IsRight M labels r
+right_by M labels r ts t lexed read l e =
+    let f = by_names (by_labels labels) t in
+    let at_start : Decides r.verdict.holds (Holds M f M.start) =
+    subst (λ (v : Verdict). Decides v.holds (Holds M f M.start)) e
+    (reference_right M f M.start M.begins) in
+    record {
+      tree = t;
+      parses = record { tokens = ts; lexed = lexed; whole = (agreement ts t).0 read };
+      listed = listed (by_labels labels) ts l;
+      holds = at_start;
+      verdict = λ X right.
+          same_verdict M X (marks M f)
+          (λ s l. same_from_decides (X s) (marks M f s) (right s l) (reference_right M f s l))
+          ∙ e;
+    }
+
+pub nodes_by : (text : List ℕ) (ts : List Tok) (t : Tree) → tokens_of text ≡ Some ts
+    → tree_of ts ≡ Some t → HasNodes text (size t)
+nodes_by text ts t lexed read =
+    (t, record { tokens = ts; lexed = lexed; whole = (agreement ts t).0 read }, refl)
+
+-- A path weighs what its tariffs come to, one joined after the other.
+weigh_folds : (joined : ℕ → ℕ → ℕ) (tariff : ℕ → ℕ) (n : ℕ) (w : List Step)
+    → weigh (λ v w. v ≤ w) joined tariff n w ≡ fold joined n (map (λ s. tariff s.0) w)
+weigh_folds joined tariff n [] = refl
+weigh_folds joined tariff n ((a, t) ∷ w) = weigh_folds joined tariff (joined n (tariff a)) w
+
+pub weighs_by : (joined : ℕ → ℕ → ℕ) (tariffs : List ℕ) (n : ℕ) → fold joined 0 tariffs ≡ n
+    → Weighs joined tariffs n
+weighs_by joined tariffs n h tariff w e =
+    weigh_folds joined tariff 0 w ∙ ap (fold joined 0) e ∙ h

@@ -1,0 +1,92 @@
+ghost use Rattle.std.specs.Prelude.{◌≡◌};
+ghost use Rattle.formula.specs.Checking.{is_listed, all_listed, Whole, ChecksTokens, Checks};
+ghost use Rattle.formula.specs.Entering.{Entered};
+ghost use Rattle.formula.specs.Laying.{drafted};
+ghost use Rattle.formula.specs.Places.{ahead};
+ghost use Rattle.formula.specs.Tokens.{tok};
+ghost use Rattle.formula.specs.Vocabulary.{by_labels, vocabulary};
+
+use crate::built::{Joint, Level};
+use crate::cursor::Cursor;
+use crate::draft::Draft;
+use crate::lexer::lex;
+use crate::names::Names;
+use crate::nodes::Nodes;
+use crate::token::Token;
+use base::{Labels, Refusal};
+
+/// The most bytes that a text may have.
+pub const MOST_BYTES: usize = 1024;
+
+// Whether a token is no name that is not listed.
+fn is_listed(token: Token, names: Names) -> bool
+    ensures { result ≡ is_listed (vocabulary names.entry) (tok token) }
+{
+    match token {
+        Token::Symbol(_) => true,
+        Token::Name(name) => names.labels.lookup(name.as_bytes()).is_some(),
+    }
+}
+
+impl<'a> Cursor<'a> {
+    // Whether every name among the tokens is listed.
+    fn all_listed(&self) -> bool
+        ensures { result ≡ all_listed (vocabulary self.now.names) (ahead self.now) }
+    {
+        self.tokens
+            .iter()
+            .all(|token| is_listed(*token, self.names))
+    }
+
+    // Writes the formula that the tokens are as a whole, if they are one.
+    fn whole(&self, draft: &mut Draft) -> Option<()>
+        ensures { Whole (vocabulary self.now.names) (ahead self.now) (drafted draft.old)
+            (drafted draft.new) result }
+    {
+        let built = self.formula(Level::Chain(Joint::Or), draft)?;
+        if !built.rest.is_empty() {
+            return None;
+        }
+        Some(())
+    }
+
+    // The table with the formula that the tokens are.
+    fn check_tokens(&self, nodes: &Nodes) -> Result<Nodes, Refusal>
+        ensures { ChecksTokens (vocabulary self.now.names) (ahead self.now) nodes.now result }
+    {
+        let mut draft = Draft::over(nodes);
+        self.whole(&mut draft).ok_or(Refusal::Grammar)?;
+        if !self.all_listed() {
+            return Err(Refusal::Nameless);
+        }
+        let written = draft.nodes.ok_or(Refusal::Full)?;
+        nodes.with(written).ok_or(Refusal::Full)
+    }
+}
+
+// The table with the formula that a text is.
+fn check(text: &[u8], names: Names, nodes: &Nodes) -> Result<Nodes, Refusal>
+    ensures { Checks text.now (vocabulary names.entry) nodes.now result }
+{
+    if text.is_empty() || text.len() > MOST_BYTES {
+        return Err(Refusal::Grammar);
+    }
+    let tokens = lex(text)?;
+    let start = Cursor {
+        tokens: tokens.as_slice(),
+        names,
+    };
+    start.check_tokens(nodes)
+}
+
+/// Enters a text: writes its nodes past those before, and answers the number of its formula. It is
+/// refused with 5 if it is empty, has more than 1,024 bytes or is no formula; then with 6 if it has
+/// a name that the list lacks; then with 7 if it would be the ninth formula or need the 49th node.
+/// A refusal alters nothing.
+pub fn enter(nodes: &mut Nodes, text: &[u8], labels: &Labels) -> Result<usize, Refusal>
+    ensures { Entered text.now (by_labels labels.now) nodes.old nodes.new result }
+{
+    let number = nodes.formulas();
+    *nodes = check(text, Names { labels }, nodes)?;
+    Ok(number)
+}

@@ -1,0 +1,10 @@
+pub mod Operators
+pub mod Labels
+pub mod Quests
+pub mod Search
+pub mod Heaps
+pub mod Ways
+pub mod Walks
+pub mod Finding
+pub mod Tails
+pub mod NoWeight
