@@ -4,7 +4,7 @@ use Rattle.base.specs.declared.labels.Labels.{Labels}
 use Rattle.base.specs.declared.refusal.Refusal.{Refusal}
 use Rattle.base.specs.declared.refusal.Refusal.TheVariants.{Short, Garbled, Range, Crowded, Grammar, Nameless, Full, Unheard, Silent, TooBig}
 use Rattle.meaning.specs.Lts.{Lts}
-use Rattle.meaning.specs.Sheets.{Sheets}
+use Rattle.shelf.specs.Sheets.{Sheets}
 use Rattle.model.specs.declared.cell.Cell.{Cell}
 use Rattle.aut.specs.declared.header.Header.{Header}
 use Rattle.aut.specs.Agreement.{OneReading}

@@ -7,7 +7,6 @@ pub mod Sets
 pub mod Weights
 pub mod Scales
 pub mod DecidingPaths
-pub mod Sheets
 pub mod Reference
 pub mod Verdicts
 pub mod Laws
