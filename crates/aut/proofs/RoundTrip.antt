@@ -43,7 +43,7 @@ Inside M m = (m.from < M.states) × (m.label < 64) × (m.to < M.states)
 
 slot-inside : (M : Lts) (s k : ℕ) (x : Slot) → s < M.states → M.slot s k ≡ x → Each (Inside M) (slot_moves s x)
 slot-inside M s k None h e = ends
-slot-inside M s k (Some p) h e = and (h, M.acts s k p.0 p.1 e, M.stays_in s k p.0 p.1 e) ends
+slot-inside M s k (Some p) h e = and (h, M.lawful.acts s k p.0 p.1 e, M.lawful.stays_in s k p.0 p.1 e) ends
 
 inside-at : (M : Lts) (s k : ℕ) → s < M.states → Each (Inside M) (moves_at M s k)
 inside-at M s zero h = ends
@@ -57,7 +57,7 @@ inside_below M (suc n) h = each_append (Inside M) (moves_below M n) (moves_of M 
 fits : (M : Lts) (names : List (List ℕ)) (ms : List Move) → Each (Inside M) ms → all_have_names names ms ≡ true → AllFit names ms
 fits M names [] ends h = no_moves
 fits M names (m ∷ ms) (and p ps) h =
-    let q = and_parts (is_some (slice_get names m.label)) (all_have_names names ms) h in let most = M.few_states in
+    let q = and_parts (is_some (slice_get names m.label)) (all_have_names names ms) h in let most = M.lawful.few_states in
     move (record { from = omega (arith, p.0); to = omega (arith, p.2); named = q.0 }) (fits M names ms ps q.1)
 
 lines-within : (M : Lts) (names : List (List ℕ)) (ms : List Move) → Each (Inside M) ms → all_within M.states (as_lines names ms) ≡ true
@@ -178,7 +178,7 @@ module _ (M : Lts) (before : Labels) (law : lawful before ≡ true) (short_list 
 
   form : Form (text_of M names) (header_for M) ls
   form =
-      let i = M.begins in let n = M.few_states in
+      let i = M.lawful.begins in let n = M.lawful.few_states in
       record {
         first = head_text M.start (length (moves M)) M.states;
         rest = moves_text names (moves M);
@@ -190,12 +190,12 @@ module _ (M : Lts) (before : Labels) (law : lawful before ≡ true) (short_list 
 
   size_right : RightSize 2500000 w (text_of M names)
   size_right =
-      let i = M.begins in let n = M.few_states in
+      let i = M.lawful.begins in let n = M.lawful.few_states in
       record {
         short = omega (
           arith,
           text_long M names,
-          text_below M names law M.states M.few_states,
+          text_below M names law M.states M.lawful.few_states,
           many,
           head-long M.start (length (moves M)) M.states,
           length-decimal-le 5 M.start (omega arith) (omega arith) (omega arith),
@@ -214,10 +214,10 @@ module _ (M : Lts) (before : Labels) (law : lawful before ≡ true) (short_list 
 
   range : InRange 65536 (header_for M) ls
   range = record {
-    some_states = M.some_states;
-    few_states = M.few_states;
-    allowed = M.few_states;
-    begins = M.begins;
+    some_states = M.lawful.some_states;
+    few_states = M.lawful.few_states;
+    allowed = M.lawful.few_states;
+    begins = M.lawful.begins;
     few_transitions = many;
     stays_in = lines-within M names (moves M) inside;
   }

@@ -37,7 +37,7 @@ same_count X Y (suc n) h =
 same_verdict : (M : Lts) (X Y : ℕ → Bool) → ((s : ℕ) → s < M.states → X s ≡ Y s)
     → verdict M X ≡ verdict M Y
 same_verdict M X Y h =
-    ap (λ (b : Bool). said b (count_of M X)) (h M.start M.begins)
+    ap (λ (b : Bool). said b (count_of M X)) (h M.start M.lawful.begins)
     ∙ ap (λ (n : ℕ). said (Y M.start) n) (same_count X Y M.states h)
   where
     said : Bool → ℕ → Verdict
@@ -53,7 +53,7 @@ right_by M labels r ts t lexed read l e =
     let f = by_names (by_labels labels) t in
     let at_start : Decides r.verdict.holds (Holds M f M.start) =
     subst (λ (v : Verdict). Decides v.holds (Holds M f M.start)) e
-    (reference_right M f M.start M.begins) in
+    (reference_right M f M.start M.lawful.begins) in
     record {
       tree = t;
       parses = record { tokens = ts; lexed = lexed; whole = (agreement ts t).0 read };

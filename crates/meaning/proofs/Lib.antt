@@ -16,5 +16,3 @@ pub mod Agreeing
 pub mod Alike
 pub mod Derived
 pub mod Examples
-pub mod Counters
-pub mod Joins

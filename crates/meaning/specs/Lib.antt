@@ -11,5 +11,3 @@ pub mod Reference
 pub mod Verdicts
 pub mod Laws
 pub mod Examples
-pub mod Retries
-pub mod Joins
