@@ -1,6 +1,6 @@
 -- A row is right by the reader's way through its text, and by the reference evaluator.
 use Rattle.std.proofs.Common.{◌≡◌, ℕ, zero, suc, ◌+◌, ◌≤◌, ◌<◌, Bool, true, cond}
-use Rattle.std.proofs.Common.{List, [], ◌∷◌, map, fold, Some, Decides, refl, ap, ◌∙◌, subst, arith}
+use Rattle.std.proofs.Common.{List, [], ◌∷◌, map, fold, Some, IsTrue, refl, ap, ◌∙◌, subst, arith, ◌↔◌}
 use Rattle.std.specs.List.{All, AllByRecursion}
 use Rattle.std.proofs.lemmas.Bool.Decides.{same_from_decides}
 use Rattle.std.proofs.lemmas.List.Elements.{All-nil, All-cons}
@@ -51,8 +51,8 @@ pub right_by : (M : Lts) (labels : List (List ℕ)) (r : Row) (ts : List Tok) (t
     → IsRight M labels r
 right_by M labels r ts t lexed read l e =
     let f = by_names (by_labels labels) t in
-    let at_start : Decides r.verdict.holds (Holds M f M.start) =
-    subst (λ (v : Verdict). Decides v.holds (Holds M f M.start)) e
+    let at_start : IsTrue r.verdict.holds ↔ Holds M f M.start =
+    subst (λ (v : Verdict). IsTrue v.holds ↔ Holds M f M.start) e
     (reference_right M f M.start M.lawful.begins) in
     record {
       tree = t;
