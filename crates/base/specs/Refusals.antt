@@ -1,7 +1,8 @@
 -- The number and the word of each refusal, and the number of an answer.
 use Rattle.std.specs.Prelude.{ℕ, List, codes, Ok, Err, Result}
 use Rattle.base.specs.declared.refusal.Refusal.{Refusal}
-use Rattle.base.specs.declared.refusal.Refusal.TheVariants.{Short, Garbled, Range, Crowded, Grammar, Nameless, Full, Unheard, Silent, TooBig}
+use Rattle.base.specs.declared.refusal.Refusal.TheVariants.{Short, Garbled, Range, Crowded, Grammar}
+use Rattle.base.specs.declared.refusal.Refusal.TheVariants.{Nameless, Full, Unheard, Silent, TooBig}
 
 abbrev pub number_of : Refusal → ℕ
 number_of Short = 1

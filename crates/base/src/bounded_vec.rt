@@ -50,7 +50,10 @@ impl<T: Filler, const N: usize> Model for BoundedVec<T, N> {
 
     ghost invariant = { λ a. IsFilled N T.filler a.items a.len };
 
-    ghost inverse = { λ v. record { items = v ++ replicate (N - length v) T.filler; len = length v } };
+    ghost inverse = { λ v. record {
+      items = v ++ replicate (N - length v) T.filler;
+      len = length v;
+    } };
 
     ghost inverse_ok = { λ a h.
         rw (length-take-le a.len a.items (omega (arith, h.exactly, h.within)))
@@ -92,7 +95,8 @@ impl<T: Filler + fmt::Debug, const N: usize> fmt::Debug for BoundedVec<T, N> {
 }
 
 impl<T: Filler, const N: usize> BoundedVec<T, N> {
-    ghost use Rattle.std.specs.Prelude.{◌≤◌, ◌==◌, [], ◌∷◌, ◌++◌, Some, None, length, take, if◌then◌else◌, nat_lt};
+    ghost use Rattle.std.specs.Prelude.{◌≤◌, ◌==◌, [], ◌∷◌, ◌++◌, Some, None, length, take};
+    ghost use Rattle.std.specs.Prelude.{if◌then◌else◌, nat_lt};
 
     /// No value yet.
     pub fn new() -> BoundedVec<T, N>

@@ -1,7 +1,7 @@
 -- Deciding paths by kinds of steps that agree on the steps that there are.
-use Rattle.std.proofs.Common.{◌↔◌, ℕ, List, Some, None, Option, inl, inr}
+use Rattle.std.proofs.Common.{ℕ, List, Some, None, Option, inl, inr}
 use Rattle.meaning.specs.Deciding.{Step, Walk, none, step, Decisive, last, pass, OnlyFirst, Goal, Lasting, Lasts, Ended, Looping, HasDeciding}
-use Rattle.meaning.specs.DecidingPaths.{DecidingPath, ended, looping, Chosen, LightestOne, NoDecisive, HandedOut}
+use Rattle.meaning.specs.DecidingPaths.{DecidingPath, ended, looping, Chosen, LightestOne, HandedOut}
 use Rattle.meaning.specs.Formula.{Quantifier, E, A, Temporal, U, W}
 use Rattle.meaning.specs.Lts.{Lts, Transition}
 use Rattle.meaning.specs.Paths.{Kind}

@@ -3,7 +3,8 @@
 #![tactic(auto)]
 
 ghost use Rattle.meaning.specs.Examples.{WorkedExamples, AgSkips};
-ghost use Rattle.meaning.specs.Laws.{DeadlockTest, FullpathExists, UnlessReads, DerivedReads, AtDeadlock, DeadlockVerdicts};
+ghost use Rattle.meaning.specs.Laws.{DeadlockTest, FullpathExists, UnlessReads, DerivedReads};
+ghost use Rattle.meaning.specs.Laws.{AtDeadlock, DeadlockVerdicts};
 ghost use Rattle.meaning.specs.Laws.{MarksDecide, PathsDecide, DecidingExists, ReferenceRight};
 
 /// The test for a deadlocked state is right: no slot among the model's slots is filled exactly
