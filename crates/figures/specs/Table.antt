@@ -3,6 +3,7 @@ use Rattle.std.specs.Prelude.{◌≡◌, ℕ, true, false, List, [], ◌∷◌, 
 use Rattle.std.specs.List.{All}
 use Rattle.meaning.specs.Examples.{upload, lone}
 use Rattle.meaning.specs.Lts.{Deadlocked}
+use Rattle.meaning.specs.Rows.{IsSystemWith}
 use Rattle.meaning.specs.Verdicts.{share}
 use Rattle.meaning.specs.Weights.{airtime, peak}
 use Rattle.figures.specs.Claims.{Row, row, AreRight, HasNodes, Join, join, IsJoin, Weighs}
@@ -43,9 +44,9 @@ joins =
     ∷ []
 
 pub record WorkedFigures : Type 0 where
-  pub at_upload : AreRight upload upload_labels upload_rows
-  pub at_lone : AreRight lone lone_labels lone_rows
-  pub deadlocked : Deadlocked lone lone.start
+  pub at_upload : IsSystemWith upload (λ M. AreRight M upload_labels upload_rows)
+  pub at_lone : IsSystemWith lone (λ M. AreRight M lone_labels lone_rows)
+  pub deadlocked : IsSystemWith lone (λ M. Deadlocked M M.start)
   pub two_of_three : share 2 3 ≡ 666
   pub at_limits : All IsJoin joins
   pub nodes : HasNodes (codes "EX {a}") 2
