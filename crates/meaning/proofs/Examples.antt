@@ -5,7 +5,7 @@ use Rattle.std.specs.List.{AllByRecursion}
 use Rattle.std.proofs.lemmas.List.Elements.{All-from_recursion}
 use Rattle.meaning.specs.Formula.{TRUE, AX, AG, every_action, no_action}
 use Rattle.meaning.specs.Rows.{IsSystem, system}
-use Rattle.meaning.specs.Examples.{single, line, fork, wait, stray, Answers, table, operators, HasVerdicts, WorkedExamples, AgSkips}
+use Rattle.meaning.specs.Examples.{single, line, fork, wait, stray, IsAnswer, table, operators, HasVerdicts, WorkedExamples, AgSkips}
 use Rattle.meaning.proofs.Reference.{reference_right}
 use Rattle.meaning.proofs.Rows.{is_system}
 
@@ -26,22 +26,41 @@ stray-is = is_system stray refl (omega arith) (omega arith) (omega arith) (omega
 
 -- all four computed, row by row
 by_row : AllByRecursion HasVerdicts operators
-by_row =
-    (((line-is, refl), (fork-is, refl), (wait-is, refl), (stray-is, refl)),
-    (((line-is, refl), (fork-is, refl), (wait-is, refl), (stray-is, refl)),
-    (((line-is, refl), (fork-is, refl), (wait-is, refl), (stray-is, refl)),
-    (((line-is, refl), (fork-is, refl), (wait-is, refl), (stray-is, refl)),
-    (((line-is, refl), (fork-is, refl), (wait-is, refl), (stray-is, refl)),
-    (((line-is, refl), (fork-is, refl), (wait-is, refl), (stray-is, refl)),
-    (((line-is, refl), (fork-is, refl), (wait-is, refl), (stray-is, refl)),
-    (((line-is, refl), (fork-is, refl), (wait-is, refl), (stray-is, refl)),
-    (((line-is, refl), (fork-is, refl), (wait-is, refl), (stray-is, refl)),
-    (((line-is, refl), (fork-is, refl), (wait-is, refl), (stray-is, refl)),
-    tt))))))))))
+by_row = (
+  ((line-is, refl), (fork-is, refl), (wait-is, refl), (stray-is, refl)),
+  (
+    ((line-is, refl), (fork-is, refl), (wait-is, refl), (stray-is, refl)),
+    (
+      ((line-is, refl), (fork-is, refl), (wait-is, refl), (stray-is, refl)),
+      (
+        ((line-is, refl), (fork-is, refl), (wait-is, refl), (stray-is, refl)),
+        (
+          ((line-is, refl), (fork-is, refl), (wait-is, refl), (stray-is, refl)),
+          (
+            ((line-is, refl), (fork-is, refl), (wait-is, refl), (stray-is, refl)),
+            (
+              ((line-is, refl), (fork-is, refl), (wait-is, refl), (stray-is, refl)),
+              (
+                ((line-is, refl), (fork-is, refl), (wait-is, refl), (stray-is, refl)),
+                (
+                  ((line-is, refl), (fork-is, refl), (wait-is, refl), (stray-is, refl)),
+                  (
+                    ((line-is, refl), (fork-is, refl), (wait-is, refl), (stray-is, refl)),
+                    tt,
+                  ),
+                ),
+              ),
+            ),
+          ),
+        ),
+      ),
+    ),
+  ),
+)
 
 pub worked_examples : WorkedExamples
 worked_examples = (
-  All-from_recursion (λ r. Answers r.0 r.1 r.2) table ((single-is, refl), ((single-is, refl), ((stray-is, refl), tt))),
+  All-from_recursion (λ r. IsAnswer r.0 r.1 r.2) table ((single-is, refl), ((single-is, refl), ((stray-is, refl), tt))),
   All-from_recursion HasVerdicts operators by_row,
 )
 
