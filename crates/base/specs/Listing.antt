@@ -1,6 +1,6 @@
 -- The list of names that a label list holds, and what looking up and adding make of it.
 use Rattle.std.specs.Prelude.{◌≡◌, ℕ, Bool, true, false, not, ◌&&◌, ◌||◌, List, [], ◌∷◌, ◌++◌}
-use Rattle.std.specs.Prelude.{length, is_some, Some, Ok, Err, codes, Option, Result, nat_lt}
+use Rattle.std.specs.Prelude.{length, IsTrue, IsFalse, is_some, Some, Ok, Err, codes, Option, Result, nat_lt}
 use Rattle.std.specs.Prelude.{if◌then◌else◌}
 use Rattle.std.specs.List.{list_all, list_any, position_from, fold}
 use Rattle.std.specs.Str.{bytes_eq}
@@ -47,10 +47,10 @@ has_room_for name names = is_some (action_of name names) || nat_lt (length names
 -- where there is no room for it.
 abbrev pub Adds : List ℕ → (before after : List (List ℕ)) → Result ℕ Refusal → Type 0
 Adds name before after (Ok a) =
-    (has_room_for name before ≡ true) × (after ≡ with_name name before)
+    IsTrue (has_room_for name before) × (after ≡ with_name name before)
     × (action_of name after ≡ Some a)
 Adds name before after (Err e) =
-    (has_room_for name before ≡ false) × (e ≡ Crowded) × (after ≡ before)
+    IsFalse (has_room_for name before) × (e ≡ Crowded) × (after ≡ before)
 
 -- the names with some more, one after another
 abbrev pub with_names : List (List ℕ) → List (List ℕ) → List (List ℕ)
