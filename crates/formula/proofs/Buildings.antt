@@ -26,7 +26,7 @@ use Rattle.formula.specs.Shapes.{Shape, and_node, or_node}
 use Rattle.formula.specs.Levels.{stage, node_of}
 use Rattle.formula.specs.Levels as levels
 use Rattle.formula.specs.Places.{unread, ahead, moved, first}
-use Rattle.formula.specs.Reading.{past_sign, if_there, Got, Reader, then, OrLevel, Tight, read, ended_by, in_braces, with_formula, after_braces, part, link, second_part, two_parts, formula_at, formula, formula_rules}
+use Rattle.formula.specs.Reading.{past_sign, if_there, Got, Reader, and_then, OrLevel, Tight, read, ended_by, in_braces, with_formula, after_braces, part, link, second_part, two_parts, formula_at, formula, formula_rules}
 use Rattle.formula.specs.Trees.{Acts, all, Tree, TRUE, path}
 use Rattle.formula.proofs.Findings as findings
 use Rattle.formula.proofs.Layings as layings
@@ -72,7 +72,7 @@ pub without_braces : (c : Cursor) (before after : Draft) (l : Level) (r : Option
 without_braces c before after l r h k =
     findings.led (λ names. LaidPart names before after) c c c.tokens 3 3 (λ n. part (read formula_rules n (stage l))) (λ n. with_formula (read formula_rules n (stage l)) all) refl
     (omega arith) (omega arith)
-    (λ n m. ap (λ o. if_there o (λ us. then (in_braces us) (after_braces (read formula_rules n (stage l)))) (with_formula (read formula_rules n (stage l)) all (ahead c))) h) r k
+    (λ n m. ap (λ o. if_there o (λ us. and_then (in_braces us) (after_braces (read formula_rules n (stage l)))) (with_formula (read formula_rules n (stage l)) all (ahead c))) h) r k
 
 pub with_braces : (c k k' : Cursor) (before after : Draft) (l : Level) (inside : Bor (List Token)) (braces : Found ActionSet) (r : Option (Found Part)) → k ≡ moved c inside →
     k' ≡ moved c braces.rest → past_sign BraceOpen (ahead c) ≡ Some (unread inside) → length (ahead c) ≡ length (unread inside) + 1 → ChoosesBy k (λ r ts. in_braces ts) (Some braces) →
@@ -84,8 +84,8 @@ with_braces c k k' before after l inside braces r p p' h i chosen follows =
     findings.led (λ names. LaidPart names before after) c (moved c braces.rest) braces.rest 3 3 (λ n. part (read formula_rules n (stage l)))
     (λ n. after_braces (read formula_rules n (stage l)) d.0) refl (omega (arith, i, d.3)) (omega arith)
     (λ n m.
-    ap (λ o. if_there o (λ us. then (in_braces us) (after_braces (read formula_rules n (stage l)))) (with_formula (read formula_rules n (stage l)) all (ahead c))) h
-    ∙ ap (λ g. then g (after_braces (read formula_rules n (stage l)))) (d.1 n (omega (arith, i)))) r (f d.0 d.2)
+    ap (λ o. if_there o (λ us. and_then (in_braces us) (after_braces (read formula_rules n (stage l)))) (with_formula (read formula_rules n (stage l)) all (ahead c))) h
+    ∙ ap (λ g. and_then g (after_braces (read formula_rules n (stage l)))) (d.1 n (omega (arith, i)))) r (f d.0 d.2)
 
 -- two parts in brackets
 pub bracketed : (c : Cursor) (q : Quantifier) (l : Link) (p u : Acts × Tree) (inside mid on last end : Bor (List Token)) →
@@ -97,7 +97,7 @@ pub bracketed : (c : Cursor) (q : Quantifier) (l : Link) (p u : Acts × Tree) (i
 bracketed c q l p u inside mid on last end h i a m e j b f n k =
     let r = read formula_rules n OrLevel in
     ap (λ o. if_there {X = Got Tree} o (two_parts r q) None) h
-    ∙ ap (λ g. then g (λ x us. then (link us) (second_part r q x))) (a n (omega (arith, i)))
-    ∙ ap (λ g. then g (second_part r q p)) e
-    ∙ ap (λ g. then g (λ x rest. ended_by BracketClose (path q l p.0 p.1 x.0 x.1) rest)) (b n (omega (arith, i, m, j)))
+    ∙ ap (λ g. and_then g (λ x us. and_then (link us) (second_part r q x))) (a n (omega (arith, i)))
+    ∙ ap (λ g. and_then g (second_part r q p)) e
+    ∙ ap (λ g. and_then g (λ x rest. ended_by BracketClose (path q l p.0 p.1 x.0 x.1) rest)) (b n (omega (arith, i, m, j)))
     ∙ ap (λ o. if_there {X = Got Tree} o (λ rest. Some (path q l p.0 p.1 u.0 u.1, rest)) None) f

@@ -20,7 +20,7 @@ use Rattle.formula.specs.Finding.{Settles}
 use Rattle.formula.specs.Levels.{combined}
 use Rattle.formula.specs.Levels as levels
 use Rattle.formula.specs.Places.{unread, ahead, moved, Closed}
-use Rattle.formula.specs.Reading.{past_sign, if_there, ended_by, in_braces, Got, Reader, then, OrLevel, Tight, Reads, action_at, action_rules}
+use Rattle.formula.specs.Reading.{past_sign, if_there, ended_by, in_braces, Got, Reader, and_then, OrLevel, Tight, Reads, action_at, action_rules}
 use Rattle.formula.specs.Tokens.{Tok, symbol, tok}
 use Rattle.formula.specs.Trees.{Acts, complement}
 use Rattle.formula.specs.Vocabulary.{Vocabulary, vocabulary}
@@ -29,15 +29,15 @@ use Rattle.formula.proofs.Findings as findings
 -- in braces
 pub braces_none : (ts : List Tok) → Reads action_rules OrLevel ts None → in_braces ts ≡ None
 unfolding in_braces
-braces_none ts a = ap (λ g. then g (ended_by BraceClose)) (a (3 * length ts + 4) (omega arith))
+braces_none ts a = ap (λ g. and_then g (ended_by BraceClose)) (a (3 * length ts + 4) (omega arith))
 
 braces_open : (ts us : List Tok) (c : Acts) → Reads action_rules OrLevel ts (Some (c, us)) → past_sign BraceClose us ≡ None → in_braces ts ≡ None
 unfolding in_braces
-braces_open ts us c a e = ap (λ g. then g (ended_by BraceClose)) (a (3 * length ts + 4) (omega arith)) ∙ ap (λ p. if_there {X = Got Acts} p (λ rest. Some (c, rest)) None) e
+braces_open ts us c a e = ap (λ g. and_then g (ended_by BraceClose)) (a (3 * length ts + 4) (omega arith)) ∙ ap (λ p. if_there {X = Got Acts} p (λ rest. Some (c, rest)) None) e
 
 braces_some : (ts us rest : List Tok) (c : Acts) → Reads action_rules OrLevel ts (Some (c, us)) → past_sign BraceClose us ≡ Some rest → in_braces ts ≡ Some (c, rest)
 unfolding in_braces
-braces_some ts us rest c a e = ap (λ g. then g (ended_by BraceClose)) (a (3 * length ts + 4) (omega arith)) ∙ ap (λ p. if_there {X = Got Acts} p (λ vs. Some (c, vs)) None) e
+braces_some ts us rest c a e = ap (λ g. and_then g (ended_by BraceClose)) (a (3 * length ts + 4) (omega arith)) ∙ ap (λ p. if_there {X = Got Acts} p (λ vs. Some (c, vs)) None) e
 
 pub braces_closed : (c : Cursor) (y : Found ActionSet) → Chooses c OrLevel (Some y) → (r : Option (Found ActionSet)) → Closed BraceClose y r → ChoosesBy c (λ r ts. in_braces ts) r
 braces_closed c y d None e = λ n h. braces_open _ _ d.0 d.1 e

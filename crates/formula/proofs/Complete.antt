@@ -9,7 +9,7 @@ use Rattle.formula.specs.Tokens.{Tok, symbol, name}
 use Rattle.formula.specs.Trees.{Acts, all, none, silent, named, complement, Tree, TRUE, FALSE, NOT, short, path}
 use Rattle.formula.specs.Grammar as grammar
 use Rattle.formula.specs.Grammar.{Level, or_level, and_level, tight, ActionFormula, Derives, Part, opens, begins_with, begins}
-use Rattle.formula.specs.Reading.{past_sign, if_there, Got, then, Stage, OrLevel, OrMore, AndLevel, AndMore, Tight, Rules, read, Reads, ended_by, action_rules, in_braces, with_formula, after_braces, part, link, second_part, formula_rules, whole_at, tree_of}
+use Rattle.formula.specs.Reading.{past_sign, if_there, Got, and_then, Stage, OrLevel, OrMore, AndLevel, AndMore, Tight, Rules, read, Reads, ended_by, action_rules, in_braces, with_formula, after_braces, part, link, second_part, formula_rules, whole_at, tree_of}
 use Rattle.formula.specs.declared.built.Joint.TheVariants as joint
 use Rattle.formula.proofs.Stages as stages
 use Rattle.formula.proofs.Stages.{rank_small, tight-by}
@@ -64,15 +64,15 @@ actions_in (grammar.ActionFormula.tau_word {rest}) = tight-by action_rules (symb
 actions_in (grammar.ActionFormula.by_name {w} {rest}) = tight-by action_rules (name w ∷ rest) (Some (named w, rest)) (λ n h. refl)
 actions_in (grammar.ActionFormula.negated {ts} {rest} {c} d) =
     let i = actions_in d in
-    tight-by action_rules (symbol Not ∷ ts) (Some (complement c, rest)) (λ n h. ap (λ g. then g (λ x us. Some (complement x, us))) (i n (omega arith)))
+    tight-by action_rules (symbol Not ∷ ts) (Some (complement c, rest)) (λ n h. ap (λ g. and_then g (λ x us. Some (complement x, us))) (i n (omega arith)))
 actions_in (grammar.ActionFormula.grouped {ts} {rest} {c} d) =
     let i = actions_in d refl (Some (c, symbol (signed Close) ∷ rest)) (stages.stop action_rules joint.Or c (symbol (signed Close) ∷ rest) refl) in
-    tight-by action_rules (symbol (signed Open) ∷ ts) (Some (c, rest)) (λ n h. ap (λ g. then g (ended_by Close)) (i n (omega arith)))
+    tight-by action_rules (symbol (signed Open) ∷ ts) (Some (c, rest)) (λ n h. ap (λ g. and_then g (ended_by Close)) (i n (omega arith)))
 
 braces_in : {ts rest : List Tok} {c : Acts} → ActionFormula or_level ts c (symbol (signed BraceClose) ∷ rest) → in_braces ts ≡ Some (c, rest)
 unfolding in_braces
 braces_in {ts} {rest} {c} d =
-    ap (λ g. then g (ended_by BraceClose))
+    ap (λ g. and_then g (ended_by BraceClose))
     (actions_in d refl (Some (c, symbol (signed BraceClose) ∷ rest)) (stages.stop action_rules joint.Or c (symbol (signed BraceClose) ∷ rest) refl) (3 * length ts + 4) (omega arith))
 
 -- how a formula begins
@@ -141,7 +141,7 @@ F = formula_rules
 formula-part : (l : Level) (ts us : List Tok) (c : Acts) (t : Tree) (rest : List Tok) → In F l ts t rest → length ts ≤ length us → Stops l rest →
     (n : ℕ) → 3 * length us + 3 < n → with_formula (read F n (stage l)) c ts ≡ Some ((c, t), rest)
 formula-part l ts us c t rest i fewer s n h =
-    ap (λ g. then g (λ x vs. Some ((c, x), vs))) (ends F l ts t rest i s n (omega (arith, (rank_small {X = Tree} (stage l)).1)))
+    ap (λ g. and_then g (λ x vs. Some ((c, x), vs))) (ends F l ts t rest i s n (omega (arith, (rank_small {X = Tree} (stage l)).1)))
 
 mutual
   formula_in : {l : Level} {ts : List Tok} {t : Tree} {rest : List Tok} → Derives l ts t rest → In F l ts t rest
@@ -155,34 +155,34 @@ mutual
   formula_in (grammar.Derives.false_word {rest}) = tight-by F (symbol False ∷ rest) (Some (FALSE, rest)) (λ n h. refl)
   formula_in (grammar.Derives.negated {ts} {rest} {t} d) =
       let i = formula_in d in
-      tight-by F (symbol Not ∷ ts) (Some (NOT t, rest)) (λ n h. ap (λ g. then g (λ x us. Some (NOT x, us))) (i n (omega arith)))
+      tight-by F (symbol Not ∷ ts) (Some (NOT t, rest)) (λ n h. ap (λ g. and_then g (λ x us. Some (NOT x, us))) (i n (omega arith)))
   formula_in (grammar.Derives.grouped {ts} {rest} {t} d) =
       let i = formula_in d refl (Some (t, symbol (signed Close) ∷ rest)) (stages.stop F joint.Or t (symbol (signed Close) ∷ rest) refl) in
-      tight-by F (symbol (signed Open) ∷ ts) (Some (t, rest)) (λ n h. ap (λ g. then g (ended_by Close)) (i n (omega arith)))
+      tight-by F (symbol (signed Open) ∷ ts) (Some (t, rest)) (λ n h. ap (λ g. and_then g (ended_by Close)) (i n (omega arith)))
   formula_in (grammar.Derives.one_part {o} {ts} {rest} {c} {t} p) =
       let i = part_in p tt in
-      tight-by F (symbol (Short o) ∷ ts) (Some (short o c t, rest)) (λ n h. ap (λ g. then g (λ x us. Some (short o x.0 x.1, us))) (i n (omega arith)))
+      tight-by F (symbol (Short o) ∷ ts) (Some (short o c t, rest)) (λ n h. ap (λ g. and_then g (λ x us. Some (short o x.0 x.1, us))) (i n (omega arith)))
   formula_in (grammar.Derives.two_parts {q} {l} {ts} {us} {rest} {c} {d} {t} {u} x y) =
       let i = part_in x (refl, refl) in
       let j = part_in y (refl, refl) in
       let fewer = part_shorter x in
       tight-by F (symbol (Path q) ∷ symbol (signed BracketOpen) ∷ ts) (Some (path q l c t d u, rest)) (λ n h.
-      ap (λ g. then g (λ p vs. then (link vs) (second_part (read F n OrLevel) q p))) (i n (omega arith))
-      ∙ ap (λ g. then g (λ p vs. ended_by BracketClose (path q l c t p.0 p.1) vs)) (j n (omega arith)))
+      ap (λ g. and_then g (λ p vs. and_then (link vs) (second_part (read F n OrLevel) q p))) (i n (omega arith))
+      ∙ ap (λ g. and_then g (λ p vs. ended_by BracketClose (path q l c t p.0 p.1) vs)) (j n (omega arith)))
 
   part_in : {l : Level} {ts : List Tok} {c : Acts} {t : Tree} {rest : List Tok} → Part l ts c t rest → PartIn l ts c t rest
   part_in (grammar.Part.formula_alone {l} {ts} {rest} {t} d) =
       let i = formula_in d in
       λ s n h.
-      ap (λ o. if_there o (λ us. then (in_braces us) (after_braces (read F n (stage l)))) (with_formula (read F n (stage l)) all ts)) (no_brace ts (formula-begins d))
+      ap (λ o. if_there o (λ us. and_then (in_braces us) (after_braces (read F n (stage l)))) (with_formula (read F n (stage l)) all ts)) (no_brace ts (formula-begins d))
       ∙ formula-part l ts ts all t rest i (omega arith) s n h
   part_in (grammar.Part.braces_alone {l} {ts} {rest} {c} a e) = λ s n h.
-      ap (λ g. then g (after_braces (read F n (stage l)))) (braces_in a)
+      ap (λ g. and_then g (after_braces (read F n (stage l)))) (braces_in a)
       ∙ ap (λ b. cond b (with_formula (read F n (stage l)) c rest) (Some ((c, TRUE), rest))) e
   part_in (grammar.Part.braces_then {l} {ts} {us} {rest} {c} {t} a d) =
       let i = formula_in d in
       λ s n h.
-      ap (λ g. then g (after_braces (read F n (stage l)))) (braces_in a)
+      ap (λ g. and_then g (after_braces (read F n (stage l)))) (braces_in a)
       ∙ ap (λ b. cond b (with_formula (read F n (stage l)) c us) (Some ((c, TRUE), us))) (formula-begins d)
       ∙ formula-part l us (symbol (signed BraceOpen) ∷ ts) c t rest i (omega (arith, actions_shorter a)) s n h
 

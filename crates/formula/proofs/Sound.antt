@@ -11,7 +11,7 @@ use Rattle.formula.specs.Tokens.{Tok, symbol, name}
 use Rattle.formula.specs.Trees.{Acts, all, complement, Tree, TRUE, NOT, short, path}
 use Rattle.formula.specs.Grammar as grammar
 use Rattle.formula.specs.Grammar.{Level, or_level, and_level, tight, ActionFormula, Derives, Part, begins}
-use Rattle.formula.specs.Reading.{past_sign, if_there, Got, then, Stage, OrLevel, OrMore, AndLevel, AndMore, Tight, Rules, read, ended_by, in_group, action_at, action, action_rules, in_braces, with_formula, after_braces, part, link_of, linked, link, second_part, two_parts, formula_at, formula, formula_rules, nothing_after, whole_at, tree_of}
+use Rattle.formula.specs.Reading.{past_sign, if_there, Got, and_then, Stage, OrLevel, OrMore, AndLevel, AndMore, Tight, Rules, read, ended_by, in_group, action_at, action, action_rules, in_braces, with_formula, after_braces, part, link_of, linked, link, second_part, two_parts, formula_at, formula, formula_rules, nothing_after, whole_at, tree_of}
 use Rattle.formula.proofs.Stages.{no_way, past_sign_out, then_out}
 
 -- what a stage gives, for a relation between tokens and what is read
@@ -33,7 +33,7 @@ module _ {X : Type 0} (R : Rules X) (D : Level → List Tok → X → List Tok �
     (with_and : (ts us rest : List Tok) (x y : X) → D and_level ts x (symbol (signed And) ∷ us) → D tight us y rest → D and_level ts (R.both x y) rest)
     (by-rule : (r : Stage X → List Tok → Got X) → Gives D r → (ts : List Tok) (x : X) (rest : List Tok) → R.tightly r ts ≡ Some (x, rest) → D tight ts x rest) where
   or_out : (r : Stage X → List Tok → Got X) → Gives D r → (y : X) (ts : List Tok) (x : X) (rest : List Tok) (o : Option (List Tok)) → past_sign Or ts ≡ o →
-      if_there {X = Got X} o (λ us. then (r AndLevel us) (λ z vs. r (OrMore (R.either y z)) vs)) (Some (y, ts)) ≡ Some (x, rest) → Out D (OrMore y) ts x rest
+      if_there {X = Got X} o (λ us. and_then (r AndLevel us) (λ z vs. r (OrMore (R.either y z)) vs)) (Some (y, ts)) ≡ Some (x, rest) → Out D (OrMore y) ts x rest
   or_out r g y ts x rest None h e = λ us d. subst (λ p. D or_level us p.0 p.1) (same_Some _ _ e) d
   or_out r g y ts x rest (Some vs) h e = λ us d.
       let k = then_out (r AndLevel vs) (λ z ws. r (OrMore (R.either y z)) ws) e in
@@ -41,7 +41,7 @@ module _ {X : Type 0} (R : Rules X) (D : Level → List Tok → X → List Tok �
       (with_or us vs k.1 y k.0 (subst (D or_level us y) (past_sign_out Or ts vs h) d) (g AndLevel vs k.0 k.1 k.2))
 
   and_out : (r : Stage X → List Tok → Got X) → Gives D r → (y : X) (ts : List Tok) (x : X) (rest : List Tok) (o : Option (List Tok)) → past_sign And ts ≡ o →
-      if_there {X = Got X} o (λ us. then (r Tight us) (λ z vs. r (AndMore (R.both y z)) vs)) (Some (y, ts)) ≡ Some (x, rest) → Out D (AndMore y) ts x rest
+      if_there {X = Got X} o (λ us. and_then (r Tight us) (λ z vs. r (AndMore (R.both y z)) vs)) (Some (y, ts)) ≡ Some (x, rest) → Out D (AndMore y) ts x rest
   and_out r g y ts x rest None h e = λ us d. subst (λ p. D and_level us p.0 p.1) (same_Some _ _ e) d
   and_out r g y ts x rest (Some vs) h e = λ us d.
       let k = then_out (r Tight vs) (λ z ws. r (AndMore (R.both y z)) ws) e in
@@ -139,7 +139,7 @@ module _ (l : Level) (r : List Tok → Got Tree) (inside : (ts : List Tok) (t : 
   after_out c ts us p rest d false h e = at_pair (Is (symbol (signed BraceOpen) ∷ us)) e (grammar.Part.braces_alone d h)
 
   part-at_out : (ts : List Tok) (p : Acts × Tree) (rest : List Tok) (o : Option (List Tok)) → past_sign BraceOpen ts ≡ o →
-      if_there o (λ us. then (in_braces us) (after_braces r)) (with_formula r all ts) ≡ Some (p, rest) → Part l ts p.0 p.1 rest
+      if_there o (λ us. and_then (in_braces us) (after_braces r)) (with_formula r all ts) ≡ Some (p, rest) → Part l ts p.0 p.1 rest
   part-at_out ts p rest None h e = formula_out all ts ts p rest (λ t vs f. grammar.Part.formula_alone f) e
   part-at_out ts p rest (Some us) h e =
       let k = then_out (in_braces us) (after_braces r) e in
@@ -169,7 +169,7 @@ module _ (r : Stage Tree → List Tok → Got Tree) (g : Gives Derives r) where
   two_parts_out : (q : Quantifier) (ts : List Tok) (t : Tree) (rest : List Tok) → two_parts (r OrLevel) q ts ≡ Some (t, rest) →
       Derives tight (symbol (Path q) ∷ symbol (signed BracketOpen) ∷ ts) t rest
   two_parts_out q ts t rest e =
-      let k = then_out (part (r OrLevel) ts) (λ p us. then (link us) (second_part (r OrLevel) q p)) e in
+      let k = then_out (part (r OrLevel) ts) (λ p us. and_then (link us) (second_part (r OrLevel) q p)) e in
       let h = then_out (link k.1) (second_part (r OrLevel) q k.0) k.3 in
       let j = then_out (part (r OrLevel) h.1) (λ p us. ended_by BracketClose (path q h.0 k.0.0 k.0.1 p.0 p.1) us) h.3 in
       let i = ended_out BracketClose (path q h.0 k.0.0 k.0.1 j.0.0 j.0.1) t j.1 rest j.3 in

@@ -11,7 +11,7 @@ use Rattle.formula.specs.declared.built.Joint.TheVariants as joint
 use Rattle.formula.specs.declared.built.Level.TheVariants as level
 use Rattle.formula.specs.Levels.{sign_of, operand, stage, joined}
 use Rattle.formula.specs.Tokens.{Tok, symbol, name}
-use Rattle.formula.specs.Reading.{code, is, past_sign, if_there, Got, then, Stage, OrLevel, OrMore, AndLevel, AndMore, Tight, Rules, read, rank, Reads}
+use Rattle.formula.specs.Reading.{code, is, past_sign, if_there, Got, and_then, Stage, OrLevel, OrMore, AndLevel, AndMore, Tight, Rules, read, rank, Reads}
 
 pub no_way : {A : Type 0} (B : Type 0) {x : A} → ◌≡◌ {A = Option A} None (Some x) → B
 no_way B e = absurd (none-some _ e)
@@ -56,7 +56,7 @@ pub past_shorter : (s : Sign) (ts rest : List Tok) → past_sign s ts ≡ Some r
 past_shorter s ts rest e = ap length (past_sign_out s ts rest e)
 
 -- a step that was taken: what it went on from
-pub then_out : {X Y : Type 0} (o : Got X) (f : X → List Tok → Got Y) {y : Y × List Tok} → then o f ≡ Some y → (x : X) × (rest : List Tok) × (o ≡ Some (x, rest)) × (f x rest ≡ Some y)
+pub then_out : {X Y : Type 0} (o : Got X) (f : X → List Tok → Got Y) {y : Y × List Tok} → and_then o f ≡ Some y → (x : X) × (rest : List Tok) × (o ≡ Some (x, rest)) × (f x rest ≡ Some y)
 then_out None f e = no_way _ e
 then_out (Some p) f e = (p.0, p.1, refl, e)
 
@@ -74,13 +74,13 @@ rank_small Tight = (omega arith, omega arith)
 
 module _ {X : Type 0} (R : Rules X) where
   -- a chain, and what goes on after x, one step on
-  starts : (j : Joint) (n : ℕ) (ts : List Tok) → read R (suc n) (stage (level.Chain j)) ts ≡ then (read R n (stage (operand j)) ts) (λ x rest. read R n (more j x) rest)
+  starts : (j : Joint) (n : ℕ) (ts : List Tok) → read R (suc n) (stage (level.Chain j)) ts ≡ and_then (read R n (stage (operand j)) ts) (λ x rest. read R n (more j x) rest)
   unfolding read
   starts joint.Or n ts = refl
   starts joint.And n ts = refl
 
   goes : (j : Joint) (n : ℕ) (x : X) (ts : List Tok) →
-      read R (suc n) (more j x) ts ≡ if_there (past_sign (sign_of j) ts) (λ us. then (read R n (stage (operand j)) us) (λ y rest. read R n (more j (joined R j x y)) rest)) (Some (x, ts))
+      read R (suc n) (more j x) ts ≡ if_there (past_sign (sign_of j) ts) (λ us. and_then (read R n (stage (operand j)) us) (λ y rest. read R n (more j (joined R j x y)) rest)) (Some (x, ts))
   unfolding read
   goes joint.Or n x ts = refl
   goes joint.And n x ts = refl
@@ -95,26 +95,26 @@ module _ {X : Type 0} (R : Rules X) where
 
   pub none : (j : Joint) (ts : List Tok) → Reads R (stage (operand j)) ts None → Reads R (stage (level.Chain j)) ts None
   none j ts a zero h = absurd (omega arith)
-  none j ts a (suc n) h = starts j n ts ∙ ap (λ g. then g (λ x rest. read R n (more j x) rest)) (a n (omega (arith, higher j)))
+  none j ts a (suc n) h = starts j n ts ∙ ap (λ g. and_then g (λ x rest. read R n (more j x) rest)) (a n (omega (arith, higher j)))
 
   pub some : (j : Joint) (ts rest : List Tok) (x : X) (g : Got X) → Reads R (stage (operand j)) ts (Some (x, rest)) → length rest ≤ length ts → Reads R (more j x) rest g →
       Reads R (stage (level.Chain j)) ts g
   some j ts rest x g a l m zero h = absurd (omega arith)
   some j ts rest x g a l m (suc n) h =
-      starts j n ts ∙ ap (λ o. then o (λ y rest. read R n (more j y) rest)) (a n (omega (arith, higher j)))
+      starts j n ts ∙ ap (λ o. and_then o (λ y rest. read R n (more j y) rest)) (a n (omega (arith, higher j)))
       ∙ m n (omega (arith, higher j, low j x, (rank_small {X = X} (stage (operand j))).0))
 
   -- no further operand, or one
   pub stop : (j : Joint) (x : X) (ts : List Tok) → past_sign (sign_of j) ts ≡ None → Reads R (more j x) ts (Some (x, ts))
   stop j x ts e zero h = absurd (omega arith)
   stop j x ts e (suc n) h =
-      goes j n x ts ∙ ap (λ o. if_there o (λ us. then (read R n (stage (operand j)) us) (λ y rest. read R n (more j (joined R j x y)) rest)) (Some (x, ts))) e
+      goes j n x ts ∙ ap (λ o. if_there o (λ us. and_then (read R n (stage (operand j)) us) (λ y rest. read R n (more j (joined R j x y)) rest)) (Some (x, ts))) e
 
   pub no_more : (j : Joint) (x : X) (ts us : List Tok) → past_sign (sign_of j) ts ≡ Some us → Reads R (stage (operand j)) us None → Reads R (more j x) ts None
   no_more j x ts us e a zero h = absurd (omega arith)
   no_more j x ts us e a (suc n) h =
-      goes j n x ts ∙ ap (λ o. if_there o (λ vs. then (read R n (stage (operand j)) vs) (λ y rest. read R n (more j (joined R j x y)) rest)) (Some (x, ts))) e
-      ∙ ap (λ o. then o (λ y rest. read R n (more j (joined R j x y)) rest))
+      goes j n x ts ∙ ap (λ o. if_there o (λ vs. and_then (read R n (stage (operand j)) vs) (λ y rest. read R n (more j (joined R j x y)) rest)) (Some (x, ts))) e
+      ∙ ap (λ o. and_then o (λ y rest. read R n (more j (joined R j x y)) rest))
       (a n (omega (arith, past_shorter (sign_of j) ts us e, low j x, (rank_small {X = X} (stage (operand j))).1)))
 
   pub one_more : (j : Joint) (x y : X) (ts us rest : List Tok) (g : Got X) → past_sign (sign_of j) ts ≡ Some us → Reads R (stage (operand j)) us (Some (y, rest)) →
@@ -122,8 +122,8 @@ module _ {X : Type 0} (R : Rules X) where
   one_more j x y ts us rest g e a l m zero h = absurd (omega arith)
   one_more j x y ts us rest g e a l m (suc n) h =
       let less = past_shorter (sign_of j) ts us e in
-      goes j n x ts ∙ ap (λ o. if_there o (λ vs. then (read R n (stage (operand j)) vs) (λ z rest. read R n (more j (joined R j x z)) rest)) (Some (x, ts))) e
-      ∙ ap (λ o. then o (λ z rest. read R n (more j (joined R j x z)) rest)) (a n (omega (arith, less, low j x, (rank_small {X = X} (stage (operand j))).1)))
+      goes j n x ts ∙ ap (λ o. if_there o (λ vs. and_then (read R n (stage (operand j)) vs) (λ z rest. read R n (more j (joined R j x z)) rest)) (Some (x, ts))) e
+      ∙ ap (λ o. and_then o (λ z rest. read R n (more j (joined R j x z)) rest)) (a n (omega (arith, less, low j x, (rank_small {X = X} (stage (operand j))).1)))
       ∙ m n (omega (arith, less, low j x, low j (joined R j x y)))
 
   -- a tight formula, by its rule

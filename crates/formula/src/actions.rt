@@ -3,7 +3,7 @@ ghost use Rattle.base.specs.Sets.{holds};
 ghost use Rattle.formula.specs.Choosing.{IsSet, ChoosesBy, Chooses};
 ghost use Rattle.formula.specs.Levels.{operand, stage, combined};
 ghost use Rattle.formula.specs.Places.{unread, ahead, moved};
-ghost use Rattle.formula.specs.Reading.{OrLevel, Tight, then, in_group, in_braces};
+ghost use Rattle.formula.specs.Reading.{OrLevel, Tight, and_then, in_group, in_braces};
 ghost use Rattle.formula.specs.Trees.{named, complement};
 ghost use Rattle.formula.specs.Vocabulary.{vocabulary};
 
@@ -94,7 +94,7 @@ impl<'a> Cursor<'a> {
     // What follows NOT.
     #[cycle(braces)]
     fn other_actions(&self) -> Option<Found<'a, ActionSet>>
-        ensures { ChoosesBy self.now (λ r ts. then (r Tight ts)
+        ensures { ChoosesBy self.now (λ r ts. and_then (r Tight ts)
             (λ c rest. Some (complement c, rest))) result }
     {
         let Some(inner) = self.actions(Level::Tight) else {

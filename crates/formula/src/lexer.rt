@@ -2,6 +2,7 @@ ghost use Rattle.std.specs.Prelude.{◌≡◌, ℕ, Bool, ◌<◌, ◌≤◌, ma
 ghost use Rattle.std.specs.Iterator.{at_most};
 ghost use Rattle.std.specs.List.{take_while};
 ghost use Rattle.base.specs.declared.refusal.Refusal.TheVariants.{Grammar};
+ghost use Rattle.formula.specs.Lexers.{rest_of};
 ghost use Rattle.formula.specs.Tokens.{past, sign, word, word_at, name_at, token_at, ended, front, Cuts, Steps, tok, tokens_of};
 
 use crate::entering::MOST_BYTES;
@@ -108,7 +109,7 @@ pub struct Lexer<'a> {
 impl<'a> Lexer<'a> {
     /// Over the whole of a text.
     pub fn over(text: &'a [u8]) -> Lexer<'a>
-        ensures { result.rest.now ≡ text.now }
+        ensures { rest_of result ≡ text.now }
     {
         Lexer { rest: text }
     }
@@ -117,9 +118,9 @@ impl<'a> Lexer<'a> {
 impl<'a> Iterator for Lexer<'a> {
     type Item = Result<Token, Refusal>;
 
-    ghost next_gives = { λ s r t. Steps (front s.rest.now) r t.rest.now };
+    ghost next_gives = { λ s r t. Steps (front (rest_of s)) r (rest_of t) };
 
-    ghost remaining = { λ s. at_most (length s.rest.now) };
+    ghost remaining = { λ s. at_most (length (rest_of s)) };
 
     fn next(&mut self) -> Option<Result<Token, Refusal>> {
         let text = past_spaces(self.rest);

@@ -3,7 +3,7 @@ ghost use Rattle.formula.specs.Building.{BuildsBy, Builds, BuildsPart};
 ghost use Rattle.formula.specs.Choosing.{IsSet};
 ghost use Rattle.formula.specs.Levels.{operand, stage, node_of};
 ghost use Rattle.formula.specs.Places.{unread, ahead, moved};
-ghost use Rattle.formula.specs.Reading.{OrLevel, Tight, then, if_there, past_sign, in_group, with_formula, after_braces, part, two_parts};
+ghost use Rattle.formula.specs.Reading.{OrLevel, Tight, and_then, if_there, past_sign, in_group, with_formula, after_braces, part, two_parts};
 ghost use Rattle.formula.specs.Shapes.{shape};
 ghost use Rattle.formula.specs.Trees.{Acts, NOT, short};
 ghost use Rattle.formula.specs.Vocabulary.{vocabulary};
@@ -80,7 +80,7 @@ impl<'a> Cursor<'a> {
     #[cycle(formulas)]
     fn negated(&self, draft: &mut Draft) -> Option<Found<'a, usize>>
         ensures { BuildsBy self.now draft.old draft.new
-            (λ r ts. then (r Tight ts) (λ t rest. Some (NOT t, rest))) result }
+            (λ r ts. and_then (r Tight ts) (λ t rest. Some (NOT t, rest))) result }
     {
         let inner = self.formula(Level::Tight, draft)?;
         Some(Found {
@@ -106,7 +106,7 @@ impl<'a> Cursor<'a> {
     #[cycle(formulas)]
     fn one_part(&self, operator: Operator, draft: &mut Draft) -> Option<Found<'a, usize>>
         ensures { BuildsBy self.now draft.old draft.new
-            (λ r ts. then (part (r Tight) ts) (λ p rest. Some (short operator p.0 p.1, rest)))
+            (λ r ts. and_then (part (r Tight) ts) (λ p rest. Some (short operator p.0 p.1, rest)))
             result }
     {
         let Some(inner) = self.part(Level::Tight, draft) else {

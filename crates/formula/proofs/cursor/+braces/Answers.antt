@@ -3,7 +3,7 @@ use Rattle.formula.specs.Vocabulary.{vocabulary}
 use Rattle.formula.specs.declared.symbol.Symbol.TheVariants.{True, False, Tau, Not, Sign as signed}
 use Rattle.formula.specs.Choosing.{IsSet}
 use Rattle.formula.specs.Places.{unread, ahead}
-use Rattle.formula.specs.Reading.{Tight, then, read, action_rules}
+use Rattle.formula.specs.Reading.{Tight, and_then, read, action_rules}
 use Rattle.formula.specs.Tokens.{name, tok}
 use Rattle.formula.specs.Trees.{all, none, silent, named, complement}
 use Rattle.formula.proofs.Choices as choices
@@ -22,7 +22,7 @@ pub Cursor::other_actions-returns : goal.Cursor::other_actions-returns
 Cursor::other_actions-returns t c =
     let d = c.in-Some.ensures in (
       complement d.0,
-      λ n h. ap (λ g. then g (λ x rest. Some (complement x, rest))) (d.1 n (omega arith)),
+      λ n h. ap (λ g. and_then g (λ x rest. Some (complement x, rest))) (d.1 n (omega arith)),
       choices.other (vocabulary c.args.self.now.names) d.0 c.in-Some.inner.value c.complement.result d.2 c.complement.ensures,
       d.3,
     )

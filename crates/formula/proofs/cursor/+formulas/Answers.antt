@@ -6,7 +6,7 @@ use Rattle.formula.specs.Laying.{drafted, push, top}
 use Rattle.formula.specs.Shapes.{not_node}
 use Rattle.formula.specs.Levels.{stage, node_of}
 use Rattle.formula.specs.Places.{ahead, Linked}
-use Rattle.formula.specs.Reading.{OrLevel, Tight, then, read, part, link, formula_rules}
+use Rattle.formula.specs.Reading.{OrLevel, Tight, and_then, read, part, link, formula_rules}
 use Rattle.formula.specs.Trees.{Tree, TRUE, FALSE, NOT, short, path, all}
 use Rattle.formula.proofs.Buildings as buildings
 use Rattle.formula.proofs.Findings.{level_chain, none_found}
@@ -27,7 +27,7 @@ pub Cursor::negated-returns : goal.Cursor::negated-returns
 Cursor::negated-returns t c =
     let d = c.in_ok-inner.ensures in (
       NOT d.0,
-      (λ n h. ap (λ g. then g (λ u rest. Some (NOT u, rest))) (d.1 n (omega arith))),
+      (λ n h. ap (λ g. and_then g (λ u rest. Some (NOT u, rest))) (d.1 n (omega arith))),
       (
         layings.one_below (vocabulary c.args.self.now.names) not_node d.0 (drafted c.args.draft.now) _ (drafted c.put.new.self) c.in_ok-inner.inner.value d.2.0 d.2.1 c.put.ensures.after,
         c.put.ensures.number,
@@ -39,7 +39,7 @@ pub Cursor::one_part-returns : goal.Cursor::one_part-returns
 Cursor::one_part-returns t c =
     let d = c.in-Some.ensures in let y = c.in-Some.inner.value in let u = d.0 in (
       short c.args.operator u.0 u.1,
-      (λ n h. ap (λ g. then g (λ p rest. Some (short c.args.operator p.0 p.1, rest))) (d.1 n h)),
+      (λ n h. ap (λ g. and_then g (λ p rest. Some (short c.args.operator p.0 p.1, rest))) (d.1 n h)),
       (
         layings.laid-short (vocabulary c.args.self.now.names) c.args.operator u.0 u.1 y.actions (drafted c.args.draft.now) (drafted c.part.new.draft)
             (drafted c.put.new.self) y.child d.2.1 d.2.0.0 d.2.0.1 c.put.ensures.after,
@@ -89,7 +89,7 @@ pub Cursor::with_formula-returns : goal.Cursor::with_formula-returns
 Cursor::with_formula-returns t c = λ k h.
     let d = c.in_ok-inner.ensures in (
       (k, d.0),
-      (λ n m. ap (λ g. then g (λ u rest. Some ((k, u), rest))) (d.1 n (omega (arith, (rank_small {X = Tree} (stage c.args.level)).1)))),
+      (λ n m. ap (λ g. and_then g (λ u rest. Some ((k, u), rest))) (d.1 n (omega (arith, (rank_small {X = Tree} (stage c.args.level)).1)))),
       (d.2, h),
       d.3,
     )
