@@ -4,14 +4,14 @@ use Rattle.std.specs.Borrow.{Bor}
 use Rattle.formula.specs.Vocabulary.{Vocabulary, vocabulary}
 use Rattle.base.specs.declared.action_set.ActionSet.{ActionSet}
 use Rattle.formula.specs.declared.built.Found.{Found}
-use Rattle.formula.specs.declared.built.Joint.{Joint}
-use Rattle.formula.specs.declared.built.Joint.TheVariants as joint
+use Rattle.formula.specs.declared.symbol.Connective.{Connective}
+use Rattle.formula.specs.declared.symbol.Connective.TheVariants.{And, Or}
 use Rattle.formula.specs.declared.built.Level.{Level}
 use Rattle.formula.specs.declared.node.Part.{Part}
 use Rattle.formula.specs.declared.cursor.Cursor.{Cursor}
 use Rattle.formula.specs.declared.symbol.Link.{Link}
 use Rattle.formula.specs.declared.symbol.Symbol.{Symbol}
-use Rattle.formula.specs.declared.symbol.Symbol.TheVariants.{Tau, Between}
+use Rattle.formula.specs.declared.symbol.Symbol.TheVariants.{Tau, Between, Connective as connective}
 use Rattle.formula.specs.declared.symbol.Quantifier.{Quantifier}
 use Rattle.formula.specs.declared.symbol.Sign.TheVariants.{BracketOpen, BracketClose, BraceOpen}
 use Rattle.formula.specs.declared.draft.Draft.{Draft}
@@ -37,9 +37,10 @@ no_mark r [] e = refl
 no_mark r (name w ∷ ts) e = refl
 no_mark r (symbol m ∷ ts) e = let z : ◌≡◌ {A = ℕ} 0 1 = cc in absurd (omega arith)
 
-pub no_formula : (r : Reader Tree) (m : Symbol) (ts : List Tok) → (m ≡ Tau) ⊎ ((x : Link) × m ≡ Between x) → formula_at r m ts ≡ None
+pub no_formula : (r : Reader Tree) (m : Symbol) (ts : List Tok) → (m ≡ Tau) ⊎ (((x : Link) × m ≡ Between x) ⊎ ((x : Connective) × m ≡ connective x)) → formula_at r m ts ≡ None
 no_formula r m ts (inl e) = ap (λ k. formula_at r k ts) e
-no_formula r m ts (inr p) = ap (λ k. formula_at r k ts) p.1
+no_formula r m ts (inr (inl p)) = ap (λ k. formula_at r k ts) p.1
+no_formula r m ts (inr (inr p)) = ap (λ k. formula_at r k ts) p.1
 
 -- a formula, by its first word
 pub by_mark : (c k : Cursor) (before after : Draft) (m m' : Symbol) (rest : Bor (List Token)) → ahead c ≡ symbol m ∷ unread rest → m ≡ m' → k ≡ moved c rest →
@@ -57,10 +58,10 @@ laid-two names f x y s t u u' d d' v w z h k p q a n = (
   n ∙ ap (λ e. top (drafted e)) q,
 )
 
-pub joined : (names : Vocabulary) (j : Joint) (x y : Tree) (s t u u' d d' : Draft) (v w z : ℕ) → Laid names s t x v → Laid names t u y w → d ≡ u → d' ≡ u' →
+pub joined : (names : Vocabulary) (j : Connective) (x y : Tree) (s t u u' d d' : Draft) (v w z : ℕ) → Laid names s t x v → Laid names t u y w → d ≡ u → d' ≡ u' →
     drafted d' ≡ push (drafted d) (node_of j v w) → z ≡ top (drafted d') → Laid names s u' (levels.joined formula_rules j x y) z
-joined names joint.Or = laid-two names or_node
-joined names joint.And = laid-two names and_node
+joined names Or = laid-two names or_node
+joined names And = laid-two names and_node
 
 -- braces with nothing after them
 pub none_follows : (l : Level) (c : Acts) (ts : List Tok) (n : ℕ) → false ≡ begins ts → after_braces (read formula_rules n (stage l)) c ts ≡ Some ((c, TRUE), ts)

@@ -4,12 +4,12 @@ use Rattle.std.specs.Borrow.{Bor}
 use Rattle.base.specs.Sets.{holds}
 use Rattle.base.specs.declared.action_set.ActionSet.{ActionSet}
 use Rattle.formula.specs.declared.built.Found.{Found}
-use Rattle.formula.specs.declared.built.Joint.{Joint}
-use Rattle.formula.specs.declared.built.Joint.TheVariants as joint
+use Rattle.formula.specs.declared.symbol.Connective.{Connective}
+use Rattle.formula.specs.declared.symbol.Connective.TheVariants.{And, Or}
 use Rattle.formula.specs.declared.cursor.Cursor.{Cursor}
 use Rattle.formula.specs.declared.symbol.Link.{Link}
 use Rattle.formula.specs.declared.symbol.Symbol.{Symbol}
-use Rattle.formula.specs.declared.symbol.Symbol.TheVariants.{Short, Path, Between}
+use Rattle.formula.specs.declared.symbol.Symbol.TheVariants.{Short, Path, Between, Connective as connective}
 use Rattle.formula.specs.declared.symbol.Operator.{Operator}
 use Rattle.formula.specs.declared.symbol.Quantifier.{Quantifier}
 use Rattle.formula.specs.declared.symbol.Sign.TheVariants.{BraceClose}
@@ -45,16 +45,17 @@ braces_closed c y d (Some z) e =
     (d.0, (λ n h. braces_some _ _ _ d.0 d.1 e.0), subst (IsSet (vocabulary c.names) d.0) (sym e.2) d.2, omega (arith, d.3, e.1))
 
 -- an operator is no action formula
-pub no_action : (r : Reader Acts) (m : Symbol) (ts : List Tok) → ((x : Operator) × m ≡ Short x) ⊎ (((x : Quantifier) × m ≡ Path x) ⊎ ((x : Link) × m ≡ Between x)) → action_at r m ts ≡ None
+pub no_action : (r : Reader Acts) (m : Symbol) (ts : List Tok) → ((x : Operator) × m ≡ Short x) ⊎ (((x : Quantifier) × m ≡ Path x) ⊎ (((x : Link) × m ≡ Between x) ⊎ ((x : Connective) × m ≡ connective x))) → action_at r m ts ≡ None
 no_action r m ts (inl p) = ap (λ k. action_at r k ts) p.1
 no_action r m ts (inr (inl p)) = ap (λ k. action_at r k ts) p.1
-no_action r m ts (inr (inr p)) = ap (λ k. action_at r k ts) p.1
+no_action r m ts (inr (inr (inl p))) = ap (λ k. action_at r k ts) p.1
+no_action r m ts (inr (inr (inr p))) = ap (λ k. action_at r k ts) p.1
 
 module _ (names : Vocabulary) where
-  pub joined : (j : Joint) (c d : Acts) (l r u : ActionSet) → IsSet names c l → IsSet names d r → ((a : ℕ) → holds u a ≡ combined j (holds l a) (holds r a)) →
+  pub joined : (j : Connective) (c d : Acts) (l r u : ActionSet) → IsSet names c l → IsSet names d r → ((a : ℕ) → holds u a ≡ combined j (holds l a) (holds r a)) →
       IsSet names (levels.joined action_rules j c d) u
-  joined joint.Or c d l r u p q h a = h a ∙ ap (λ b. b || holds r a) (p a) ∙ ap (λ b. set_of names.labels c a || b) (q a)
-  joined joint.And c d l r u p q h a = h a ∙ ap (λ b. b && holds r a) (p a) ∙ ap (λ b. set_of names.labels c a && b) (q a)
+  joined Or c d l r u p q h a = h a ∙ ap (λ b. b || holds r a) (p a) ∙ ap (λ b. set_of names.labels c a || b) (q a)
+  joined And c d l r u p q h a = h a ∙ ap (λ b. b && holds r a) (p a) ∙ ap (λ b. set_of names.labels c a && b) (q a)
 
   pub other : (c : Acts) (l u : ActionSet) → IsSet names c l → ((a : ℕ) → holds u a ≡ (ltb a 64 && not (holds l a))) → IsSet names (complement c) u
   other c l u p h a = h a ∙ ap (λ b. ltb a 64 && not b) (p a)

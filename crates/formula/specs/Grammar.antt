@@ -1,13 +1,15 @@
 -- The grammar: which tokens are a formula, and which. `rest` is what follows.
--- The symbol that a sign is stands as `signed`, since `Sign` is the type of signs.
+-- The symbols that signs and connectives are stand as `signed` and `connective`, since `Sign` and
+-- `Connective` are types.
 use Rattle.std.specs.Prelude.{◌≡◌, ℕ, Bool, true, false, List, [], ◌∷◌, Some}
 use Rattle.formula.specs.declared.symbol.Operator.{Operator}
 use Rattle.formula.specs.declared.symbol.Quantifier.{Quantifier}
 use Rattle.formula.specs.declared.symbol.Link.{Link}
 use Rattle.formula.specs.declared.symbol.Symbol.{Symbol}
-use Rattle.formula.specs.declared.symbol.Symbol.TheVariants.{True, False, Tau, Not, Short, Path, Between, Sign as signed}
+use Rattle.formula.specs.declared.symbol.Symbol.TheVariants.{True, False, Tau, Not, Short, Path, Between, Sign as signed, Connective as connective}
 use Rattle.formula.specs.declared.symbol.Sign.{Sign}
-use Rattle.formula.specs.declared.symbol.Sign.TheVariants.{Open, Close, BracketOpen, BracketClose, BraceOpen, BraceClose, And, Or}
+use Rattle.formula.specs.declared.symbol.Sign.TheVariants.{Open, Close, BracketOpen, BracketClose, BraceOpen, BraceClose}
+use Rattle.formula.specs.declared.symbol.Connective.TheVariants.{And, Or}
 use Rattle.formula.specs.Tokens.{Tok, symbol, name, tokens_of}
 use Rattle.formula.specs.Trees.{Acts, all, none, silent, named, complement, intersection, union, Tree, TRUE, FALSE, NOT, AND, OR, short, path}
 
@@ -23,12 +25,12 @@ pub data ActionFormula : Level → List Tok → Acts → List Tok → Type 0 whe
   no_or : {ts rest : List Tok} {c : Acts} → ActionFormula and_level ts c rest →
       ActionFormula or_level ts c rest
   with_or : {ts us rest : List Tok} {c d : Acts} →
-      ActionFormula or_level ts c (symbol (signed Or) ∷ us) → ActionFormula and_level us d rest →
+      ActionFormula or_level ts c (symbol (connective Or) ∷ us) → ActionFormula and_level us d rest →
       ActionFormula or_level ts (union c d) rest
   no_and : {ts rest : List Tok} {c : Acts} → ActionFormula tight ts c rest →
       ActionFormula and_level ts c rest
   with_and : {ts us rest : List Tok} {c d : Acts} →
-      ActionFormula and_level ts c (symbol (signed And) ∷ us) → ActionFormula tight us d rest →
+      ActionFormula and_level ts c (symbol (connective And) ∷ us) → ActionFormula tight us d rest →
       ActionFormula and_level ts (intersection c d) rest
   true_word : {rest : List Tok} → ActionFormula tight (symbol True ∷ rest) all rest
   false_word : {rest : List Tok} → ActionFormula tight (symbol False ∷ rest) none rest
@@ -48,11 +50,10 @@ opens BracketOpen = false
 opens BracketClose = false
 opens BraceOpen = false
 opens BraceClose = false
-opens And = false
-opens Or = false
 
 abbrev pub begins_with : Symbol → Bool
 begins_with (signed s) = opens s
+begins_with (connective c) = false
 begins_with True = true
 begins_with False = true
 begins_with Tau = false
@@ -71,11 +72,11 @@ mutual
     no_or : {ts rest : List Tok} {t : Tree} → Derives and_level ts t rest →
         Derives or_level ts t rest
     with_or : {ts us rest : List Tok} {t u : Tree} →
-        Derives or_level ts t (symbol (signed Or) ∷ us) → Derives and_level us u rest →
+        Derives or_level ts t (symbol (connective Or) ∷ us) → Derives and_level us u rest →
         Derives or_level ts (OR t u) rest
     no_and : {ts rest : List Tok} {t : Tree} → Derives tight ts t rest → Derives and_level ts t rest
     with_and : {ts us rest : List Tok} {t u : Tree} →
-        Derives and_level ts t (symbol (signed And) ∷ us) → Derives tight us u rest →
+        Derives and_level ts t (symbol (connective And) ∷ us) → Derives tight us u rest →
         Derives and_level ts (AND t u) rest
     true_word : {rest : List Tok} → Derives tight (symbol True ∷ rest) TRUE rest
     false_word : {rest : List Tok} → Derives tight (symbol False ∷ rest) FALSE rest

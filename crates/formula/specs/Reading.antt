@@ -1,12 +1,15 @@
 -- How the reader goes through the tokens. Grammar.antt says what a formula is; that the two agree
--- is proved. The symbol that a sign is stands as `signed`, since `Sign` is the type of signs.
-use Rattle.std.specs.Prelude.{◌≡◌, ℕ, zero, suc, ◌+◌, ◌*◌, ◌<◌, Bool, false, List, [], ◌∷◌, length, Some, None, Option, ◌==◌, if◌then◌else◌}
+-- is proved. The symbols that signs and connectives are stand as `signed` and `connective`, since
+-- `Sign` and `Connective` are types.
+use Rattle.std.specs.Prelude.{◌≡◌, ℕ, zero, suc, ◌+◌, ◌*◌, ◌<◌, Bool, true, false, List, [], ◌∷◌, length, Some, None, Option, ◌==◌, if◌then◌else◌}
 use Rattle.formula.specs.declared.symbol.Quantifier.{Quantifier}
 use Rattle.formula.specs.declared.symbol.Link.{Link}
 use Rattle.formula.specs.declared.symbol.Symbol.{Symbol}
-use Rattle.formula.specs.declared.symbol.Symbol.TheVariants.{True, False, Tau, Not, Short, Path, Between, Sign as signed}
+use Rattle.formula.specs.declared.symbol.Symbol.TheVariants.{True, False, Tau, Not, Short, Path, Between, Sign as signed, Connective as connective}
 use Rattle.formula.specs.declared.symbol.Sign.{Sign}
-use Rattle.formula.specs.declared.symbol.Sign.TheVariants.{Open, Close, BracketOpen, BracketClose, BraceOpen, BraceClose, And, Or}
+use Rattle.formula.specs.declared.symbol.Sign.TheVariants.{Open, Close, BracketOpen, BracketClose, BraceOpen, BraceClose}
+use Rattle.formula.specs.declared.symbol.Connective.{Connective}
+use Rattle.formula.specs.declared.symbol.Connective.TheVariants.{And, Or}
 use Rattle.formula.specs.Tokens.{Tok, symbol, name}
 use Rattle.formula.specs.Trees.{Acts, all, none, silent, named, complement, intersection, union, Tree, TRUE, FALSE, NOT, AND, OR, short, path}
 use Rattle.formula.specs.Grammar.{opens, begins}
@@ -19,11 +22,10 @@ code BracketOpen = 2
 code BracketClose = 3
 code BraceOpen = 4
 code BraceClose = 5
-code And = 6
-code Or = 7
 
 abbrev pub is : Sign → Symbol → Bool
 is s (signed t) = code t == code s
+is s (connective c) = false
 is s True = false
 is s False = false
 is s Tau = false
@@ -37,6 +39,29 @@ abbrev pub past_sign : Sign → List Tok → Option (List Tok)
 past_sign s [] = None
 past_sign s (name w ∷ ts) = None
 past_sign s (symbol m ∷ ts) = if is s m then Some ts else None
+
+-- the same for AND and OR
+abbrev pub same : Connective → Connective → Bool
+same And And = true
+same And Or = false
+same Or And = false
+same Or Or = true
+
+abbrev pub is_connective : Connective → Symbol → Bool
+is_connective c (signed s) = false
+is_connective c (connective d) = same d c
+is_connective c True = false
+is_connective c False = false
+is_connective c Tau = false
+is_connective c Not = false
+is_connective c (Short o) = false
+is_connective c (Path q) = false
+is_connective c (Between l) = false
+
+abbrev pub past_connective : Connective → List Tok → Option (List Tok)
+past_connective c [] = None
+past_connective c (name w ∷ ts) = None
+past_connective c (symbol m ∷ ts) = if is_connective c m then Some ts else None
 
 abbrev pub if_there : {X : Type 0} → Option (List Tok) → (List Tok → X) → X → X
 if_there None f x = x
@@ -73,11 +98,11 @@ unfoldable pub read : {X : Type 0} → Rules X → ℕ → Stage X → List Tok 
 read R zero l ts = None
 read R (suc n) OrLevel ts = and_then (read R n AndLevel ts) (λ x rest. read R n (OrMore x) rest)
 read R (suc n) (OrMore x) ts =
-    if_there (past_sign Or ts) (λ us. and_then (read R n AndLevel us)
+    if_there (past_connective Or ts) (λ us. and_then (read R n AndLevel us)
     (λ y rest. read R n (OrMore (R.either x y)) rest)) (Some (x, ts))
 read R (suc n) AndLevel ts = and_then (read R n Tight ts) (λ x rest. read R n (AndMore x) rest)
 read R (suc n) (AndMore x) ts =
-    if_there (past_sign And ts) (λ us. and_then (read R n Tight us)
+    if_there (past_connective And ts) (λ us. and_then (read R n Tight us)
     (λ y rest. read R n (AndMore (R.both x y)) rest)) (Some (x, ts))
 read R (suc n) Tight ts = R.tightly (read R n) ts
 
@@ -103,6 +128,7 @@ in_group s g = if opens s then and_then g (ended_by Close) else None
 -- action formulas
 abbrev pub action_at : Reader Acts → Symbol → List Tok → Got Acts
 action_at r (signed s) ts = in_group s (r OrLevel ts)
+action_at r (connective c) ts = None
 action_at r True ts = Some (all, ts)
 action_at r False ts = Some (none, ts)
 action_at r Tau ts = Some (silent, ts)
@@ -138,6 +164,7 @@ part r ts =
 -- the word between two parts
 abbrev pub link_of : Symbol → Option Link
 link_of (signed s) = None
+link_of (connective c) = None
 link_of True = None
 link_of False = None
 link_of Tau = None
@@ -166,6 +193,7 @@ two_parts r q ts = and_then (part r ts) (λ p us. and_then (link us) (second_par
 -- formulas
 abbrev pub formula_at : Reader Tree → Symbol → List Tok → Got Tree
 formula_at r (signed s) ts = in_group s (r OrLevel ts)
+formula_at r (connective c) ts = None
 formula_at r True ts = Some (TRUE, ts)
 formula_at r False ts = Some (FALSE, ts)
 formula_at r Tau ts = None

@@ -6,12 +6,13 @@ ghost use Rattle.formula.specs.Places.{ahead};
 ghost use Rattle.formula.specs.Tokens.{tok};
 ghost use Rattle.formula.specs.Vocabulary.{by_labels, vocabulary};
 
-use crate::built::{Joint, Level};
+use crate::built::Level;
 use crate::cursor::Cursor;
 use crate::draft::Draft;
 use crate::lexer::lex;
 use crate::names::Names;
 use crate::nodes::Nodes;
+use crate::symbol::Connective;
 use crate::token::Token;
 use base::{Labels, Refusal};
 
@@ -43,7 +44,7 @@ impl<'a> Cursor<'a> {
         ensures { Whole (vocabulary self.now.names) (ahead self.now) (drafted draft.old)
             (drafted draft.new) result }
     {
-        let built = self.formula(Level::Chain(Joint::Or), draft)?;
+        let built = self.formula(Level::Chain(Connective::Or), draft)?;
         if !built.rest.is_empty() {
             return None;
         }

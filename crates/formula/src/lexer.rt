@@ -6,7 +6,7 @@ ghost use Rattle.formula.specs.Lexers.{rest_of};
 ghost use Rattle.formula.specs.Tokens.{past, sign, word, word_at, name_at, token_at, ended, front, Cuts, Steps, tok, tokens_of};
 
 use crate::entering::MOST_BYTES;
-use crate::symbol::{Link, Operator, Quantifier, Sign, Symbol};
+use crate::symbol::{Connective, Link, Operator, Quantifier, Sign, Symbol};
 use crate::token::Token;
 use arrayvec::ArrayVec;
 use base::{Name, Refusal, is_name_byte};
@@ -35,8 +35,8 @@ fn word_of(letters: &[u8]) -> Option<Symbol>
         b"FALSE" => Some(Symbol::False),
         b"TAU" => Some(Symbol::Tau),
         b"NOT" => Some(Symbol::Not),
-        b"AND" => Some(Symbol::Sign(Sign::And)),
-        b"OR" => Some(Symbol::Sign(Sign::Or)),
+        b"AND" => Some(Symbol::Connective(Connective::And)),
+        b"OR" => Some(Symbol::Connective(Connective::Or)),
         b"E" => Some(Symbol::Path(Quantifier::Exists)),
         b"A" => Some(Symbol::Path(Quantifier::ForAll)),
         b"U" => Some(Symbol::Between(Link::Until)),

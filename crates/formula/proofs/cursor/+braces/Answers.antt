@@ -13,10 +13,10 @@ use Rattle.formula.proofs.cursor.+braces.Goals as goal
 
 pub Cursor::actions-returns : goal.Cursor::actions-returns
 Cursor::actions-returns t c =
-    let names = vocabulary c.args.self.now.names in let j = c.in-Chain.joint in
+    let names = vocabulary c.args.self.now.names in let j = c.in-Chain.connective in
     rw c.in-Chain.is
     (level_chain action_rules j c.args.self.now (λ _ _ x y. IsSet names x y) _ _ (λ at s r s' o. o.3)
-    (λ x y s t u u' v w z h k i. choices.joined names j x y v w z h k (search of_calls)) _ c.from.ensures _ _ _ c.chain.ensures)
+    (λ x y s t u u' v w z h k i. choices.joined names j x y v w z h k (search of_calls)) _ _ _ c.chain.ensures)
 
 pub Cursor::other_actions-returns : goal.Cursor::other_actions-returns
 Cursor::other_actions-returns t c =

@@ -16,12 +16,12 @@ use Rattle.formula.proofs.cursor.+formulas.Goals as goal
 
 pub Cursor::formula-returns : goal.Cursor::formula-returns
 Cursor::formula-returns t c =
-    let names = vocabulary c.args.self.now.names in let j = c.in-Chain.joint in
+    let names = vocabulary c.args.self.now.names in let j = c.in-Chain.connective in
     rw c.in-Chain.is
     (level_chain formula_rules j c.args.self.now (Laid names) _ _ (λ at s r s' o. rw (sym o.2, sym o.4) o.3)
     (λ x y s t u u' v w z h k i.
-    let e : (drafted i.1.now ≡ push (drafted i.0.now) (node_of c.in-Chain.joint v w)) × (z ≡ top (drafted i.1.now)) = search of_calls in
-    buildings.joined names j x y s t u u' i.0.now i.1.now v w z h k i.2 i.4 e.0 e.1) _ c.from.ensures _ _ _ c.chain.ensures)
+    let e : (drafted i.1.now ≡ push (drafted i.0.now) (node_of c.in-Chain.connective v w)) × (z ≡ top (drafted i.1.now)) = search of_calls in
+    buildings.joined names j x y s t u u' i.0.now i.1.now v w z h k i.2 i.4 e.0 e.1) _ _ _ c.chain.ensures)
 
 pub Cursor::negated-returns : goal.Cursor::negated-returns
 Cursor::negated-returns t c =
