@@ -101,7 +101,7 @@ fn past_spaces(text: &[u8]) -> &[u8]
 
 /// The tokens of a text, one after another. Bytes that are no token are refused, and nothing comes
 /// after them.
-#[derive(Clone, Copy)]
+#[derive(Clone, Copy, Debug)]
 pub struct Lexer<'a> {
     rest: &'a [u8],
 }

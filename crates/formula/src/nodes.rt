@@ -14,7 +14,7 @@ pub const MOST_FORMULAS: usize = 8;
 /// The nodes of at most 8 formulas, 48 nodes in all, and the number of each formula's last node,
 /// its root. The nodes of a formula follow those of the formula before it; each stands after those
 /// below it, which are nodes of the same formula.
-#[derive(Clone, Copy)]
+#[derive(Clone, Copy, PartialEq, Eq, Debug)]
 pub struct Nodes {
     pub(crate) nodes: BoundedVec<Node, MOST_NODES>,
     pub(crate) roots: BoundedVec<usize, MOST_FORMULAS>,
