@@ -1,5 +1,5 @@
--- A chain of operands with AND or OR between them, by what reading an operand and joining two values
--- may answer.
+-- A chain of operands with AND or OR between them, by what reading an operand and joining two
+-- values may answer.
 use Rattle.std.specs.Prelude.{◌≡◌, ◌≤◌, List, length, Some, None, Option, IfSome}
 use Rattle.std.specs.Borrow.{Bor}
 use denote.Ref.{MutBor}
@@ -27,9 +27,8 @@ module _ {F V S : Type 0} (g : Shared F (Bor (List Token) × (MutBor S × Unit {
 abbrev pub MayJoin : {F V S : Type 0} →
     Shared F (V × (V × (MutBor S × Unit {0}))) (V × (MutBor S × Unit {0})) → F → V → V → S → V → S →
     Type 0
-MayJoin {S =
-    S} g f x y s z s' = (p q : MutBor S) × (p.now ≡ s) × g.post f (x, (y, (p, tt))) (z, (q, tt))
-    × (q.now ≡ s')
+MayJoin {S = S} g f x y s z s' =
+    (p q : MutBor S) × (p.now ≡ s) × g.post f (x, (y, (p, tt))) (z, (q, tt)) × (q.now ≡ s')
 
 module _ {V S : Type 0} (Operand : Bor (List Token) → S → Option (Found V) → S → Type 0)
     (Join : V → V → S → V → S → Type 0) (c : Connective) where

@@ -1,7 +1,7 @@
 -- The grammar: which tokens are a formula, and which. `rest` is what follows.
 -- The symbols that signs and connectives are stand as `signed` and `connective`, since `Sign` and
 -- `Connective` are types.
-use Rattle.std.specs.Prelude.{◌≡◌, ℕ, Bool, true, false, List, [], ◌∷◌, Some}
+use Rattle.std.specs.Prelude.{◌≡◌, ℕ, Bool, true, false, IsFalse, List, [], ◌∷◌, Some}
 use Rattle.formula.specs.declared.symbol.Operator.{Operator}
 use Rattle.formula.specs.declared.symbol.Quantifier.{Quantifier}
 use Rattle.formula.specs.declared.symbol.Link.{Link}
@@ -25,13 +25,13 @@ pub data ActionFormula : Level → List Tok → Acts → List Tok → Type 0 whe
   no_or : {ts rest : List Tok} {c : Acts} → ActionFormula and_level ts c rest →
       ActionFormula or_level ts c rest
   with_or : {ts us rest : List Tok} {c d : Acts} →
-      ActionFormula or_level ts c (symbol (connective Or) ∷ us) → ActionFormula and_level us d rest →
-      ActionFormula or_level ts (union c d) rest
+      ActionFormula or_level ts c (symbol (connective Or) ∷ us) →
+      ActionFormula and_level us d rest → ActionFormula or_level ts (union c d) rest
   no_and : {ts rest : List Tok} {c : Acts} → ActionFormula tight ts c rest →
       ActionFormula and_level ts c rest
   with_and : {ts us rest : List Tok} {c d : Acts} →
-      ActionFormula and_level ts c (symbol (connective And) ∷ us) → ActionFormula tight us d rest →
-      ActionFormula and_level ts (intersection c d) rest
+      ActionFormula and_level ts c (symbol (connective And) ∷ us) →
+      ActionFormula tight us d rest → ActionFormula and_level ts (intersection c d) rest
   true_word : {rest : List Tok} → ActionFormula tight (symbol True ∷ rest) all rest
   false_word : {rest : List Tok} → ActionFormula tight (symbol False ∷ rest) none rest
   tau_word : {rest : List Tok} → ActionFormula tight (symbol Tau ∷ rest) silent rest
@@ -98,7 +98,7 @@ mutual
     formula_alone : {l : Level} {ts rest : List Tok} {t : Tree} → Derives l ts t rest →
         Part l ts all t rest
     braces_alone : {l : Level} {ts rest : List Tok} {c : Acts} →
-        ActionFormula or_level ts c (symbol (signed BraceClose) ∷ rest) → begins rest ≡ false →
+        ActionFormula or_level ts c (symbol (signed BraceClose) ∷ rest) → IsFalse (begins rest) →
         Part l (symbol (signed BraceOpen) ∷ ts) c TRUE rest
     braces_then : {l : Level} {ts us rest : List Tok} {c : Acts} {t : Tree} →
         ActionFormula or_level ts c (symbol (signed BraceClose) ∷ us) → Derives l us t rest →

@@ -98,12 +98,14 @@ unfoldable pub read : {X : Type 0} → Rules X → ℕ → Stage X → List Tok 
 read R zero l ts = None
 read R (suc n) OrLevel ts = and_then (read R n AndLevel ts) (λ x rest. read R n (OrMore x) rest)
 read R (suc n) (OrMore x) ts =
-    if_there (past_connective Or ts) (λ us. and_then (read R n AndLevel us)
-    (λ y rest. read R n (OrMore (R.either x y)) rest)) (Some (x, ts))
+    if_there (past_connective Or ts)
+    (λ us. and_then (read R n AndLevel us) (λ y rest. read R n (OrMore (R.either x y)) rest))
+    (Some (x, ts))
 read R (suc n) AndLevel ts = and_then (read R n Tight ts) (λ x rest. read R n (AndMore x) rest)
 read R (suc n) (AndMore x) ts =
-    if_there (past_connective And ts) (λ us. and_then (read R n Tight us)
-    (λ y rest. read R n (AndMore (R.both x y)) rest)) (Some (x, ts))
+    if_there (past_connective And ts)
+    (λ us. and_then (read R n Tight us) (λ y rest. read R n (AndMore (R.both x y)) rest))
+    (Some (x, ts))
 read R (suc n) Tight ts = R.tightly (read R n) ts
 
 abbrev pub rank : {X : Type 0} → Stage X → ℕ
@@ -158,8 +160,8 @@ after_braces r c ts = if begins ts then with_formula r c ts else Some ((c, TRUE)
 
 abbrev pub part : (List Tok → Got Tree) → List Tok → Got (Acts × Tree)
 part r ts =
-    if_there (past_sign BraceOpen ts)
-    (λ us. and_then (in_braces us) (after_braces r)) (with_formula r all ts)
+    if_there (past_sign BraceOpen ts) (λ us. and_then (in_braces us) (after_braces r))
+    (with_formula r all ts)
 
 -- the word between two parts
 abbrev pub link_of : Symbol → Option Link

@@ -86,16 +86,16 @@ word_at bs = found_symbol (word (take_while capital bs)) (past capital bs) broke
 
 abbrev pub name_at : List ℕ → Front
 name_at bs =
-    if is_name (take_while name_byte bs) then found (name (take_while name_byte bs))
-    (past name_byte bs)
+    if is_name (take_while name_byte bs)
+    then found (name (take_while name_byte bs)) (past name_byte bs)
     else broken
 
 -- the token that a text begins with
 abbrev pub token_at : List ℕ → Front
 token_at [] = ended
 token_at (b ∷ bs) =
-    found_symbol (option_map signed (sign b)) bs (if capital b then word_at (b ∷ bs)
-    else name_at (b ∷ bs))
+    found_symbol (option_map signed (sign b)) bs
+    (if capital b then word_at (b ∷ bs) else name_at (b ∷ bs))
 
 -- the next token, after spaces
 abbrev pub front : List ℕ → Front

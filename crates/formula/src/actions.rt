@@ -51,7 +51,8 @@ impl<'a> Cursor<'a> {
             &mut (),
             |rest: &[Token], _: &mut ()| -> Option<Found<ActionSet>>
                 requires { length (unread rest) ≤ length (ahead self.now) }
-                ensures { Chooses (moved self.entry.now rest.entry) (stage (operand connective)) result }
+                ensures { Chooses (moved self.entry.now rest.entry) (stage (operand connective))
+                    result }
             { self.moved_to(rest).actions(connective.operand()) },
             |left: ActionSet, right: ActionSet, _: &mut ()| connective.set(left, right),
         )
