@@ -55,7 +55,7 @@ impl<'a> Cursor<'a> {
     fn check_tokens(&self, nodes: &Nodes) -> Result<Nodes, Refusal>
         ensures { ChecksTokens (vocabulary self.now.names) (ahead self.now) nodes.now result }
     {
-        let mut draft = Draft::over(nodes);
+        let mut draft = Draft::from_nodes(nodes);
         self.whole(&mut draft).ok_or(Refusal::Grammar)?;
         if !self.all_listed() {
             return Err(Refusal::Nameless);

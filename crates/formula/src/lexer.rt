@@ -108,7 +108,7 @@ pub struct Lexer<'a> {
 
 impl<'a> Lexer<'a> {
     /// Over the whole of a text.
-    pub fn over(text: &'a [u8]) -> Lexer<'a>
+    pub fn new(text: &'a [u8]) -> Lexer<'a>
         ensures { rest_of result ≡ text.now }
     {
         Lexer { rest: text }
@@ -148,7 +148,7 @@ pub(crate) fn lex(text: &[u8]) -> Result<ArrayVec<Token, MOST_BYTES>, Refusal>
     ensures refusal { IfErr result (λ e. e ≡ Grammar) }
 {
     let mut tokens = ArrayVec::new();
-    for token in Lexer::over(text) {
+    for token in Lexer::new(text) {
         tokens.push(token?);
     }
     Ok(tokens)

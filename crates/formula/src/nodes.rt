@@ -34,7 +34,7 @@ pub struct Span {
 }
 
 impl Nodes {
-    ghost use Rattle.std.specs.Prelude.{◌≡◌, ◌↔◌, ◌<◌, ◌≤◌, [], ◌∷◌, ◌++◌, ◌-◌, length, IsSome, IfSome, OnSome};
+    ghost use Rattle.std.specs.Prelude.{◌≡◌, ◌↔◌, ◌<◌, ◌≤◌, [], ◌∷◌, ◌++◌, ◌-◌, length, IsTrue, IsSome, IfSome, OnSome};
     ghost use Rattle.std.specs.Option.{option_map};
     ghost use Rattle.std.specs.List.{slice_get};
     ghost use Rattle.formula.specs.Nodes.{shapes, roots, SpanOf};
@@ -56,6 +56,13 @@ impl Nodes {
         ensures { result ≡ length (shapes self.now) }
     {
         self.as_slice().len()
+    }
+
+    /// Whether there is no node, and so no formula.
+    pub fn is_empty(&self) -> bool
+        ensures { IsTrue result ↔ (shapes self.now ≡ []) }
+    {
+        self.as_slice().is_empty()
     }
 
     /// How many formulas there are.
