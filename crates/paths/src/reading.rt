@@ -29,7 +29,7 @@ pub(crate) fn operator_of(node: Node) -> Option<PathFormula>
     ensures { ReadsAs node result }
 {
     match node {
-        Node::Short { operator, part } => Some(PathFormula::two_parts(operator, part)),
+        Node::Short { operator, part } => Some(PathFormula::from_short(operator, part)),
         Node::Path {
             quantifier,
             link,
