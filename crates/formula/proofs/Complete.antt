@@ -9,7 +9,7 @@ use Rattle.formula.specs.declared.symbol.Connective.TheVariants.{And, Or}
 use Rattle.formula.specs.Tokens.{Tok, symbol, name}
 use Rattle.formula.specs.Trees.{Acts, all, none, silent, named, complement, Tree, TRUE, FALSE, NOT, short, path}
 use Rattle.formula.specs.Grammar as grammar
-use Rattle.formula.specs.Grammar.{Level, or_level, and_level, tight, ActionFormula, Derives, Part, opens, begins_with, begins}
+use Rattle.formula.specs.Grammar.{Level, or_level, and_level, tight, ActionFormula, Derives, DerivesPart, opens, begins_with, begins}
 use Rattle.formula.specs.Reading.{past_sign, past_connective, if_there, Got, and_then, Stage, OrLevel, OrMore, AndLevel, AndMore, Tight, Rules, read, Reads, ended_by, action_rules, in_braces, with_formula, after_braces, part, link, second_part, formula_rules, whole_at, tree_of}
 use Rattle.formula.proofs.Stages as stages
 use Rattle.formula.proofs.Stages.{rank_small, tight-by}
@@ -125,10 +125,10 @@ mutual
   formula_shorter (grammar.Derives.one_part p) = omega (arith, part_shorter p)
   formula_shorter (grammar.Derives.two_parts p q) = omega (arith, part_shorter p, part_shorter q)
 
-  part_shorter : {l : Level} {ts : List Tok} {c : Acts} {t : Tree} {rest : List Tok} → Part l ts c t rest → length rest ≤ length ts
-  part_shorter (grammar.Part.formula_alone d) = formula_shorter d
-  part_shorter (grammar.Part.braces_alone a e) = omega (arith, actions_shorter a)
-  part_shorter (grammar.Part.braces_then a d) = omega (arith, actions_shorter a, formula_shorter d)
+  part_shorter : {l : Level} {ts : List Tok} {c : Acts} {t : Tree} {rest : List Tok} → DerivesPart l ts c t rest → length rest ≤ length ts
+  part_shorter (grammar.DerivesPart.formula_alone d) = formula_shorter d
+  part_shorter (grammar.DerivesPart.braces_alone a e) = omega (arith, actions_shorter a)
+  part_shorter (grammar.DerivesPart.braces_then a d) = omega (arith, actions_shorter a, formula_shorter d)
 
 -- a part is read by what reads its formula
 abbrev PartIn : Level → List Tok → Acts → Tree → List Tok → Type 0
@@ -169,16 +169,16 @@ mutual
       ap (λ g. and_then g (λ p vs. and_then (link vs) (second_part (read F n OrLevel) q p))) (i n (omega arith))
       ∙ ap (λ g. and_then g (λ p vs. ended_by BracketClose (path q l c t p.0 p.1) vs)) (j n (omega arith)))
 
-  part_in : {l : Level} {ts : List Tok} {c : Acts} {t : Tree} {rest : List Tok} → Part l ts c t rest → PartIn l ts c t rest
-  part_in (grammar.Part.formula_alone {l} {ts} {rest} {t} d) =
+  part_in : {l : Level} {ts : List Tok} {c : Acts} {t : Tree} {rest : List Tok} → DerivesPart l ts c t rest → PartIn l ts c t rest
+  part_in (grammar.DerivesPart.formula_alone {l} {ts} {rest} {t} d) =
       let i = formula_in d in
       λ s n h.
       ap (λ o. if_there o (λ us. and_then (in_braces us) (after_braces (read F n (stage l)))) (with_formula (read F n (stage l)) all ts)) (no_brace ts (formula-begins d))
       ∙ formula-part l ts ts all t rest i (omega arith) s n h
-  part_in (grammar.Part.braces_alone {l} {ts} {rest} {c} a e) = λ s n h.
+  part_in (grammar.DerivesPart.braces_alone {l} {ts} {rest} {c} a e) = λ s n h.
       ap (λ g. and_then g (after_braces (read F n (stage l)))) (braces_in a)
       ∙ ap (λ b. cond b (with_formula (read F n (stage l)) c rest) (Some ((c, TRUE), rest))) e
-  part_in (grammar.Part.braces_then {l} {ts} {us} {rest} {c} {t} a d) =
+  part_in (grammar.DerivesPart.braces_then {l} {ts} {us} {rest} {c} {t} a d) =
       let i = formula_in d in
       λ s n h.
       ap (λ g. and_then g (after_braces (read F n (stage l)))) (braces_in a)

@@ -11,7 +11,7 @@ use Rattle.formula.specs.declared.symbol.Connective.TheVariants.{And, Or}
 use Rattle.formula.specs.Tokens.{Tok, symbol, name}
 use Rattle.formula.specs.Trees.{Acts, all, complement, Tree, TRUE, NOT, short, path}
 use Rattle.formula.specs.Grammar as grammar
-use Rattle.formula.specs.Grammar.{Level, or_level, and_level, tight, ActionFormula, Derives, Part, begins}
+use Rattle.formula.specs.Grammar.{Level, or_level, and_level, tight, ActionFormula, Derives, DerivesPart, begins}
 use Rattle.formula.specs.Reading.{past_sign, past_connective, if_there, Got, and_then, Stage, OrLevel, OrMore, AndLevel, AndMore, Tight, Rules, read, ended_by, in_group, action_at, action, action_rules, in_braces, with_formula, after_braces, part, link_of, linked, link, second_part, two_parts, formula_at, formula, formula_rules, nothing_after, whole_at, tree_of}
 use Rattle.formula.proofs.Stages.{no_way, past_sign_out, past_connective_out, then_out}
 
@@ -125,28 +125,28 @@ braces_out ts c rest e =
 -- parts
 module _ (l : Level) (r : List Tok → Got Tree) (inside : (ts : List Tok) (t : Tree) (rest : List Tok) → r ts ≡ Some (t, rest) → Derives l ts t rest) where
   abbrev Is : List Tok → Acts × Tree → List Tok → Type 0
-  Is ts p rest = Part l ts p.0 p.1 rest
+  Is ts p rest = DerivesPart l ts p.0 p.1 rest
 
   formula_out : (c : Acts) (ts : List Tok) (us : List Tok) (p : Acts × Tree) (rest : List Tok) →
-      ((t : Tree) (vs : List Tok) → Derives l ts t vs → Part l us c t vs) → with_formula r c ts ≡ Some (p, rest) → Part l us p.0 p.1 rest
+      ((t : Tree) (vs : List Tok) → Derives l ts t vs → DerivesPart l us c t vs) → with_formula r c ts ≡ Some (p, rest) → DerivesPart l us p.0 p.1 rest
   formula_out c ts us p rest made e =
       let k = then_out (r ts) (λ t vs. Some ((c, t), vs)) e in
       at_pair (Is us) k.3 (made k.0 k.1 (inside ts k.0 k.1 k.2))
 
   after_out : (c : Acts) (ts us : List Tok) (p : Acts × Tree) (rest : List Tok) → ActionFormula or_level us c (symbol (signed BraceClose) ∷ ts) → (b : Bool) → begins ts ≡ b →
-      cond b (with_formula r c ts) (Some ((c, TRUE), ts)) ≡ Some (p, rest) → Part l (symbol (signed BraceOpen) ∷ us) p.0 p.1 rest
-  after_out c ts us p rest d true h e = formula_out c ts (symbol (signed BraceOpen) ∷ us) p rest (λ t vs f. grammar.Part.braces_then d f) e
-  after_out c ts us p rest d false h e = at_pair (Is (symbol (signed BraceOpen) ∷ us)) e (grammar.Part.braces_alone d h)
+      cond b (with_formula r c ts) (Some ((c, TRUE), ts)) ≡ Some (p, rest) → DerivesPart l (symbol (signed BraceOpen) ∷ us) p.0 p.1 rest
+  after_out c ts us p rest d true h e = formula_out c ts (symbol (signed BraceOpen) ∷ us) p rest (λ t vs f. grammar.DerivesPart.braces_then d f) e
+  after_out c ts us p rest d false h e = at_pair (Is (symbol (signed BraceOpen) ∷ us)) e (grammar.DerivesPart.braces_alone d h)
 
   part-at_out : (ts : List Tok) (p : Acts × Tree) (rest : List Tok) (o : Option (List Tok)) → past_sign BraceOpen ts ≡ o →
-      if_there o (λ us. and_then (in_braces us) (after_braces r)) (with_formula r all ts) ≡ Some (p, rest) → Part l ts p.0 p.1 rest
-  part-at_out ts p rest None h e = formula_out all ts ts p rest (λ t vs f. grammar.Part.formula_alone f) e
+      if_there o (λ us. and_then (in_braces us) (after_braces r)) (with_formula r all ts) ≡ Some (p, rest) → DerivesPart l ts p.0 p.1 rest
+  part-at_out ts p rest None h e = formula_out all ts ts p rest (λ t vs f. grammar.DerivesPart.formula_alone f) e
   part-at_out ts p rest (Some us) h e =
       let k = then_out (in_braces us) (after_braces r) e in
-      subst (λ x. Part l x p.0 p.1 rest) (sym (past_sign_out BraceOpen ts us h))
+      subst (λ x. DerivesPart l x p.0 p.1 rest) (sym (past_sign_out BraceOpen ts us h))
       (after_out k.0 k.1 us p rest (braces_out us k.0 k.1 k.2) (begins k.1) refl k.3)
 
-  part_out : (ts : List Tok) (p : Acts × Tree) (rest : List Tok) → part r ts ≡ Some (p, rest) → Part l ts p.0 p.1 rest
+  part_out : (ts : List Tok) (p : Acts × Tree) (rest : List Tok) → part r ts ≡ Some (p, rest) → DerivesPart l ts p.0 p.1 rest
   part_out ts p rest e = part-at_out ts p rest (past_sign BraceOpen ts) refl e
 
 link-at_out : (m : Symbol) (ts : List Tok) (l : Link) (rest : List Tok) → linked (link_of m) ts ≡ Some (l, rest) → symbol m ∷ ts ≡ symbol (Between l) ∷ rest
@@ -177,8 +177,8 @@ module _ (r : Stage Tree → List Tok → Got Tree) (g : Gives Derives r) where
       let first = part_out or_level (r OrLevel) (g OrLevel) ts k.0 k.1 k.2 in
       let second = part_out or_level (r OrLevel) (g OrLevel) h.1 j.0 j.1 j.2 in
       subst (λ x. Derives tight (symbol (Path q) ∷ symbol (signed BracketOpen) ∷ ts) x rest) i.0
-      (grammar.Derives.two_parts (subst (Part or_level ts k.0.0 k.0.1) (link_out k.1 h.0 h.1 h.2) first)
-      (subst (Part or_level h.1 j.0.0 j.0.1) i.1 second))
+      (grammar.Derives.two_parts (subst (DerivesPart or_level ts k.0.0 k.0.1) (link_out k.1 h.0 h.1 h.2) first)
+      (subst (DerivesPart or_level h.1 j.0.0 j.0.1) i.1 second))
 
   path_out : (q : Quantifier) (ts : List Tok) (t : Tree) (rest : List Tok) (o : Option (List Tok)) → past_sign BracketOpen ts ≡ o →
       if_there {X = Got Tree} o (two_parts (r OrLevel) q) None ≡ Some (t, rest) → Derives tight (symbol (Path q) ∷ ts) t rest

@@ -85,24 +85,24 @@ mutual
     grouped : {ts rest : List Tok} {t : Tree} →
         Derives or_level ts t (symbol (signed Close) ∷ rest) →
         Derives tight (symbol (signed Open) ∷ ts) t rest
-    one_part : {o : Operator} {ts rest : List Tok} {c : Acts} {t : Tree} → Part tight ts c t rest →
-        Derives tight (symbol (Short o) ∷ ts) (short o c t) rest
+    one_part : {o : Operator} {ts rest : List Tok} {c : Acts} {t : Tree} →
+        DerivesPart tight ts c t rest → Derives tight (symbol (Short o) ∷ ts) (short o c t) rest
     two_parts : {q : Quantifier} {l : Link} {ts us rest : List Tok} {c d : Acts} {t u : Tree} →
-        Part or_level ts c t (symbol (Between l) ∷ us) →
-        Part or_level us d u (symbol (signed BracketClose) ∷ rest) →
+        DerivesPart or_level ts c t (symbol (Between l) ∷ us) →
+        DerivesPart or_level us d u (symbol (signed BracketClose) ∷ rest) →
         Derives tight (symbol (Path q) ∷ symbol (signed BracketOpen) ∷ ts) (path q l c t d u) rest
 
   -- Braces, a formula, or both. After braces a formula is read whenever one can begin. Left-out
   -- braces mean {TRUE}, a left-out formula TRUE.
-  pub data Part : Level → List Tok → Acts → Tree → List Tok → Type 0 where
+  pub data DerivesPart : Level → List Tok → Acts → Tree → List Tok → Type 0 where
     formula_alone : {l : Level} {ts rest : List Tok} {t : Tree} → Derives l ts t rest →
-        Part l ts all t rest
+        DerivesPart l ts all t rest
     braces_alone : {l : Level} {ts rest : List Tok} {c : Acts} →
         ActionFormula or_level ts c (symbol (signed BraceClose) ∷ rest) → IsFalse (begins rest) →
-        Part l (symbol (signed BraceOpen) ∷ ts) c TRUE rest
+        DerivesPart l (symbol (signed BraceOpen) ∷ ts) c TRUE rest
     braces_then : {l : Level} {ts us rest : List Tok} {c : Acts} {t : Tree} →
         ActionFormula or_level ts c (symbol (signed BraceClose) ∷ us) → Derives l us t rest →
-        Part l (symbol (signed BraceOpen) ∷ ts) c t rest
+        DerivesPart l (symbol (signed BraceOpen) ∷ ts) c t rest
 
 -- A text of the grammar: its tokens are a formula as a whole.
 pub record Parses (text : List ℕ) (t : Tree) : Type 0 where
