@@ -32,10 +32,10 @@ use Rattle.formula.proofs.Findings as findings
 use Rattle.formula.proofs.Layings as layings
 
 -- where no formula begins
-pub no_mark : (r : Reader Tree) (ts : List Tok) → first ts ≡ None → formula r ts ≡ None
-no_mark r [] e = refl
-no_mark r (name w ∷ ts) e = refl
-no_mark r (symbol m ∷ ts) e = let z : ◌≡◌ {A = ℕ} 0 1 = cc in absurd (omega arith)
+pub no_symbol : (r : Reader Tree) (ts : List Tok) → first ts ≡ None → formula r ts ≡ None
+no_symbol r [] e = refl
+no_symbol r (name w ∷ ts) e = refl
+no_symbol r (symbol m ∷ ts) e = let z : ◌≡◌ {A = ℕ} 0 1 = cc in absurd (omega arith)
 
 pub no_formula : (r : Reader Tree) (m : Symbol) (ts : List Tok) → (m ≡ Tau) ⊎ (((x : Link) × m ≡ Between x) ⊎ ((x : Connective) × m ≡ connective x)) → formula_at r m ts ≡ None
 no_formula r m ts (inl e) = ap (λ k. formula_at r k ts) e
@@ -43,9 +43,9 @@ no_formula r m ts (inr (inl p)) = ap (λ k. formula_at r k ts) p.1
 no_formula r m ts (inr (inr p)) = ap (λ k. formula_at r k ts) p.1
 
 -- a formula, by its first word
-pub by_mark : (c k : Cursor) (before after : Draft) (m m' : Symbol) (rest : Bor (List Token)) → ahead c ≡ symbol m ∷ unread rest → m ≡ m' → k ≡ moved c rest →
+pub by_symbol : (c k : Cursor) (before after : Draft) (m m' : Symbol) (rest : Bor (List Token)) → ahead c ≡ symbol m ∷ unread rest → m ≡ m' → k ≡ moved c rest →
     (r : Option (Found ℕ)) → BuildsBy k before after (λ r ts. formula_at r m' ts) r → Builds c before after Tight r
-by_mark c k before after m m' rest e q p r f =
+by_symbol c k before after m m' rest e q p r f =
     findings.tight-from (λ names. Laid names before after) formula_rules c k (symbol m') rest p (e ∙ ap (λ x. symbol x ∷ unread rest) q) r f
 
 -- a node over two that were laid, in a draft that is the same as theirs

@@ -64,7 +64,7 @@ pub none-at : (c : Cursor) (b : ℕ) (F : ℕ → List Tok → Got Acts) (r : Op
 none-at = findings.none_found IsSet
 
 -- a word, by what is read after it
-pub by_mark : (c k : Cursor) (x : Token) (m m' : Symbol) (rest : Bor (List Token)) → ahead c ≡ tok x ∷ unread rest → x ≡ token.Symbol m → m ≡ m' → k ≡ moved c rest →
+pub by_symbol : (c k : Cursor) (x : Token) (m m' : Symbol) (rest : Bor (List Token)) → ahead c ≡ tok x ∷ unread rest → x ≡ token.Symbol m → m ≡ m' → k ≡ moved c rest →
     (r : Option (Found ActionSet)) → ChoosesBy k (λ r ts. action_at r m' ts) r → Chooses c Tight r
-by_mark c k x m m' rest e i q p r f =
+by_symbol c k x m m' rest e i q p r f =
     findings.tight-from IsSet action_rules c k (symbol m') rest p (e ∙ ap (λ y. tok y ∷ unread rest) (i ∙ ap token.Symbol q)) r f

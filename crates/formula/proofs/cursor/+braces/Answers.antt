@@ -41,27 +41,27 @@ Cursor::tight_actions-returns-in-Name t c =
 
 pub Cursor::tight_actions-returns-in-True : goal.Cursor::tight_actions-returns-in-True
 Cursor::tight_actions-returns-in-True t c =
-    choices.by_mark c.args.self.now _ _ c.in-Symbol.symbol True c.in-Some.field-0.rest c.in-Some.ensures.0 c.in-Symbol.is c.in-True.is refl (Some (record { value = c.all.result; rest = c.in-Some.field-0.rest }))
+    choices.by_symbol c.args.self.now _ _ c.in-Symbol.symbol True c.in-Some.field-0.rest c.in-Some.ensures.0 c.in-Symbol.is c.in-True.is refl (Some (record { value = c.all.result; rest = c.in-Some.field-0.rest }))
     (all, (λ n h. refl), c.all.ensures, omega arith)
 
 pub Cursor::tight_actions-returns-in-False : goal.Cursor::tight_actions-returns-in-False
 Cursor::tight_actions-returns-in-False t c =
-    choices.by_mark c.args.self.now _ _ c.in-Symbol.symbol False c.in-Some.field-0.rest c.in-Some.ensures.0 c.in-Symbol.is c.in-False.is refl (Some (record { value = c.empty.result; rest = c.in-Some.field-0.rest }))
+    choices.by_symbol c.args.self.now _ _ c.in-Symbol.symbol False c.in-Some.field-0.rest c.in-Some.ensures.0 c.in-Symbol.is c.in-False.is refl (Some (record { value = c.empty.result; rest = c.in-Some.field-0.rest }))
     (none, (λ n h. refl), c.empty.ensures, omega arith)
 
 pub Cursor::tight_actions-returns-in-Tau : goal.Cursor::tight_actions-returns-in-Tau
 Cursor::tight_actions-returns-in-Tau t c =
-    choices.by_mark c.args.self.now _ _ c.in-Symbol.symbol Tau c.in-Some.field-0.rest c.in-Some.ensures.0 c.in-Symbol.is c.in-Tau.is refl (Some (record { value = c.from_action.result; rest = c.in-Some.field-0.rest }))
+    choices.by_symbol c.args.self.now _ _ c.in-Symbol.symbol Tau c.in-Some.field-0.rest c.in-Some.ensures.0 c.in-Symbol.is c.in-Tau.is refl (Some (record { value = c.from_action.result; rest = c.in-Some.field-0.rest }))
     (silent, (λ n h. refl), c.from_action.ensures, omega arith)
 
 pub Cursor::tight_actions-returns-in-Not : goal.Cursor::tight_actions-returns-in-Not
 Cursor::tight_actions-returns-in-Not t c =
-    choices.by_mark c.args.self.now _ _ c.in-Symbol.symbol Not c.in-Some.field-0.rest c.in-Some.ensures.0 c.in-Symbol.is c.in-Not.is c.moved_to-onward.ensures c.other_actions.result c.other_actions.ensures
+    choices.by_symbol c.args.self.now _ _ c.in-Symbol.symbol Not c.in-Some.field-0.rest c.in-Some.ensures.0 c.in-Symbol.is c.in-Not.is c.moved_to-onward.ensures c.other_actions.result c.other_actions.ensures
 
 pub Cursor::tight_actions-returns-in-Sign : goal.Cursor::tight_actions-returns-in-Sign
 Cursor::tight_actions-returns-in-Sign t c =
-    choices.by_mark c.args.self.now _ _ c.in-Symbol.symbol (signed c.in-Sign.sign) c.in-Some.field-0.rest c.in-Some.ensures.0 c.in-Symbol.is c.in-Sign.is c.moved_to-onward.ensures c.grouped_actions.result c.grouped_actions.ensures
+    choices.by_symbol c.args.self.now _ _ c.in-Symbol.symbol (signed c.in-Sign.sign) c.in-Some.field-0.rest c.in-Some.ensures.0 c.in-Symbol.is c.in-Sign.is c.moved_to-onward.ensures c.grouped_actions.result c.grouped_actions.ensures
 
 pub Cursor::tight_actions-returns-in-Short : goal.Cursor::tight_actions-returns-in-Short
 Cursor::tight_actions-returns-in-Short t c =
-    choices.by_mark c.args.self.now _ _ c.in-Symbol.symbol c.in-Symbol.symbol c.in-Some.field-0.rest c.in-Some.ensures.0 c.in-Symbol.is refl refl None (λ n h. choices.no_action (read action_rules n) c.in-Symbol.symbol _ c.in-Short.is)
+    choices.by_symbol c.args.self.now _ _ c.in-Symbol.symbol c.in-Symbol.symbol c.in-Some.field-0.rest c.in-Some.ensures.0 c.in-Symbol.is refl refl None (λ n h. choices.no_action (read action_rules n) c.in-Symbol.symbol _ c.in-Short.is)

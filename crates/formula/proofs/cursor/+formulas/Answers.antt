@@ -98,37 +98,37 @@ pub Cursor::tight-returns-in_err-first : goal.Cursor::tight-returns-in_err-first
 Cursor::tight-returns-in_err-first t c =
     let s = c.args.self.now in
     none_found (λ names. Laid names c.args.draft.now c.args.draft.now) s 1 (λ n. read formula_rules n Tight) c.from_residual.result c.from_residual.ensures
-    (tight-by formula_rules (ahead s) None (λ n h. buildings.no_mark (read formula_rules n) (ahead s) c.in_err-first.ensures))
+    (tight-by formula_rules (ahead s) None (λ n h. buildings.no_symbol (read formula_rules n) (ahead s) c.in_err-first.ensures))
 
 pub Cursor::tight-returns-in-True : goal.Cursor::tight-returns-in-True
 Cursor::tight-returns-in-True t c =
     let s = c.args.self.now in
-    buildings.by_mark s _ c.args.draft.now c.put.new.self _ True c.in_ok-first.first.rest c.in_ok-first.ensures.0 c.in-True.is refl (Some (record { value = c.put.result; rest = c.in_ok-first.first.rest }))
+    buildings.by_symbol s _ c.args.draft.now c.put.new.self _ True c.in_ok-first.first.rest c.in_ok-first.ensures.0 c.in-True.is refl (Some (record { value = c.put.result; rest = c.in_ok-first.first.rest }))
     (TRUE, (λ n h. refl), (c.put.ensures.after, c.put.ensures.number), omega arith)
 
 pub Cursor::tight-returns-in-False : goal.Cursor::tight-returns-in-False
 Cursor::tight-returns-in-False t c =
     let s = c.args.self.now in
-    buildings.by_mark s _ c.args.draft.now c.put-in-False.new.self _ False c.in_ok-first.first.rest c.in_ok-first.ensures.0 c.in-False.is refl (Some (record { value = c.put-in-False.result; rest = c.in_ok-first.first.rest }))
+    buildings.by_symbol s _ c.args.draft.now c.put-in-False.new.self _ False c.in_ok-first.first.rest c.in_ok-first.ensures.0 c.in-False.is refl (Some (record { value = c.put-in-False.result; rest = c.in_ok-first.first.rest }))
     (FALSE, (λ n h. refl), (c.put-in-False.ensures.after, c.put-in-False.ensures.number), omega arith)
 
 pub Cursor::tight-returns-in-Not : goal.Cursor::tight-returns-in-Not
 Cursor::tight-returns-in-Not t c =
-    buildings.by_mark c.args.self.now _ c.args.draft.now c.negated.new.draft _ Not c.in_ok-first.first.rest c.in_ok-first.ensures.0 c.in-Not.is c.moved_to-onward.ensures c.negated.result c.negated.ensures
+    buildings.by_symbol c.args.self.now _ c.args.draft.now c.negated.new.draft _ Not c.in_ok-first.first.rest c.in_ok-first.ensures.0 c.in-Not.is c.moved_to-onward.ensures c.negated.result c.negated.ensures
 
 pub Cursor::tight-returns-in-Sign : goal.Cursor::tight-returns-in-Sign
 Cursor::tight-returns-in-Sign t c =
-    buildings.by_mark c.args.self.now _ c.args.draft.now c.grouped.new.draft _ (signed c.in-Sign.sign) c.in_ok-first.first.rest c.in_ok-first.ensures.0 c.in-Sign.is c.moved_to-onward.ensures c.grouped.result c.grouped.ensures
+    buildings.by_symbol c.args.self.now _ c.args.draft.now c.grouped.new.draft _ (signed c.in-Sign.sign) c.in_ok-first.first.rest c.in_ok-first.ensures.0 c.in-Sign.is c.moved_to-onward.ensures c.grouped.result c.grouped.ensures
 
 pub Cursor::tight-returns-in-Short : goal.Cursor::tight-returns-in-Short
 Cursor::tight-returns-in-Short t c =
-    buildings.by_mark c.args.self.now _ c.args.draft.now c.one_part.new.draft _ (Short c.in-Short.operator) c.in_ok-first.first.rest c.in_ok-first.ensures.0 c.in-Short.is c.moved_to-onward.ensures c.one_part.result c.one_part.ensures
+    buildings.by_symbol c.args.self.now _ c.args.draft.now c.one_part.new.draft _ (Short c.in-Short.operator) c.in_ok-first.first.rest c.in_ok-first.ensures.0 c.in-Short.is c.moved_to-onward.ensures c.one_part.result c.one_part.ensures
 
 pub Cursor::tight-returns-in-Path : goal.Cursor::tight-returns-in-Path
 Cursor::tight-returns-in-Path t c =
-    buildings.by_mark c.args.self.now _ c.args.draft.now c.two_parts.new.draft _ (Path c.in-Path.quantifier) c.in_ok-first.first.rest c.in_ok-first.ensures.0 c.in-Path.is c.moved_to-onward.ensures c.two_parts.result c.two_parts.ensures
+    buildings.by_symbol c.args.self.now _ c.args.draft.now c.two_parts.new.draft _ (Path c.in-Path.quantifier) c.in_ok-first.first.rest c.in_ok-first.ensures.0 c.in-Path.is c.moved_to-onward.ensures c.two_parts.result c.two_parts.ensures
 
 pub Cursor::tight-returns-in-Tau : goal.Cursor::tight-returns-in-Tau
 Cursor::tight-returns-in-Tau t c =
-    buildings.by_mark c.args.self.now _ c.args.draft.now c.args.draft.now c.in_ok-first.first.value c.in_ok-first.first.value c.in_ok-first.first.rest c.in_ok-first.ensures.0 refl refl None
+    buildings.by_symbol c.args.self.now _ c.args.draft.now c.args.draft.now c.in_ok-first.first.value c.in_ok-first.first.value c.in_ok-first.first.rest c.in_ok-first.ensures.0 refl refl None
     (λ n h. buildings.no_formula (read formula_rules n) c.in_ok-first.first.value _ c.in-Tau.is)
