@@ -1,4 +1,4 @@
-ghost use Rattle.std.specs.Prelude.{◌≡◌};
+ghost use Rattle.std.specs.Prelude.{◌≡◌, ◌≤◌, length};
 ghost use Rattle.formula.specs.Checking.{is_listed, all_listed, Whole, ChecksTokens, Checks};
 ghost use Rattle.formula.specs.Entering.{Entered};
 ghost use Rattle.formula.specs.Laying.{drafted};
@@ -65,6 +65,22 @@ impl<'a> Cursor<'a> {
     }
 }
 
+// The table with the formula that a text of a right length is. A call of its own, so that a text
+// that is refused for its length does not pay for the room of the tokens.
+#[inline(never)]
+fn check_lexed(text: &[u8], names: Names, nodes: &Nodes) -> Result<Nodes, Refusal>
+    requires some { 1 ≤ length text.now }
+    requires few { length text.now ≤ 1024 }
+    ensures { Checks text.now (vocabulary names.entry) nodes.now result }
+{
+    let tokens = lex(text)?;
+    let start = Cursor {
+        tokens: tokens.as_slice(),
+        names,
+    };
+    start.check_tokens(nodes)
+}
+
 // The table with the formula that a text is.
 fn check(text: &[u8], names: Names, nodes: &Nodes) -> Result<Nodes, Refusal>
     ensures { Checks text.now (vocabulary names.entry) nodes.now result }
@@ -72,12 +88,7 @@ fn check(text: &[u8], names: Names, nodes: &Nodes) -> Result<Nodes, Refusal>
     if text.is_empty() || text.len() > MOST_BYTES {
         return Err(Refusal::Grammar);
     }
-    let tokens = lex(text)?;
-    let start = Cursor {
-        tokens: tokens.as_slice(),
-        names,
-    };
-    start.check_tokens(nodes)
+    check_lexed(text, names, nodes)
 }
 
 /// Enters a text: writes its nodes past those before, and answers the number of its formula. It is
