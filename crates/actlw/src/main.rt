@@ -46,11 +46,12 @@ fn summary(
     let transitions = header.transitions;
     let start = header.start;
     format!(in heap;
-        "model: {states} states, {transitions} transitions, start {start}, {labels} labels, {deadlocked} deadlocked"
+        "model: {states} states, {transitions} transitions, start {start}, {labels} labels, \
+         {deadlocked} deadlocked"
     )
 }
 
-// Parses the number of a refusal.
+// Prints the number of a refusal.
 fn refuse(rt: &HostRuntime, why: Refusal) -> io::Result<()> {
     println!(rt; "refused {}", why.number())
 }
@@ -71,7 +72,7 @@ fn read_formulas(rt: &HostRuntime, text: &[u8], labels: &Labels) -> io::Result<(
     Ok(())
 }
 
-// Parses what was read of the model.
+// Prints what was read of the model.
 fn report(rt: &HostRuntime, header: Header, labels: &Labels, cells: &[Cell]) -> io::Result<()> {
     match Grid::new(cells, header.size(SLOTS), header.start) {
         Ok(grid) => { rt.println(summary(rt.alloc(), header, labels.len() - 1, deadlocks(&grid))?) }

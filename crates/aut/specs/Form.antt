@@ -1,5 +1,5 @@
 -- The AUT form: what the lines of a text are.
-use Rattle.std.specs.Prelude.{◌≡◌, ℕ, ◌+◌, ◌-◌, ◌*◌, ◌≤◌, Bool, true, List, [], ◌∷◌, ◌++◌, length, codes, slice_index_or}
+use Rattle.std.specs.Prelude.{◌≡◌, ℕ, ◌+◌, ◌-◌, ◌*◌, ◌≤◌, Bool, IsTrue, List, [], ◌∷◌, ◌++◌, length, codes, slice_index_or}
 use Rattle.std.specs.List.{fold, list_all}
 use Rattle.base.specs.Names.{digit, is_name}
 use Rattle.aut.specs.declared.header.Header.{Header}
@@ -18,7 +18,7 @@ worth n bs = fold (λ m b. m * 10 + (b - 48)) n bs
 
 -- A numeral: base ten, 1 to 5 digits, no needless leading zero.
 pub record Numeral (text : List ℕ) (n : ℕ) : Type 0 where
-  pub in_digits : all_digits text ≡ true
+  pub in_digits : IsTrue (all_digits text)
   pub some_digits : 1 ≤ length text
   pub few_digits : length text ≤ 5
   pub zero_alone : slice_index_or text 0 0 ≡ 48 → length text ≡ 1
@@ -51,7 +51,7 @@ pub record FurtherLine (text : List ℕ) (l : Transition) : Type 0 where
   pub gap : List ℕ
   pub gap' : List ℕ
   pub from_is : Numeral from l.from
-  pub label_is : is_name l.label ≡ true
+  pub label_is : IsTrue (is_name l.label)
   pub to_is : Numeral to l.to
   pub gap_is : Gap gap
   pub gap_is' : Gap gap'

@@ -79,12 +79,10 @@ digit_in f v s =
 abbrev pub letter_in : ℕ → State → Option State
 letter_in b s =
     if nat_lt (length s.line.label) 16 then Some (record {
-      field =
-          Label;
+      field = Label;
       number = s.number;
       head = s.head;
-      line =
-          record { from = s.line.from; label = s.line.label ++ b ∷ []; to = s.line.to };
+      line = record { from = s.line.from; label = s.line.label ++ b ∷ []; to = s.line.to };
     }) else None
 
 -- what the number read is for
@@ -109,8 +107,7 @@ store_in p f s =
       field = f;
       number = None;
       head = head_with p n s.head;
-      line =
-          line_with p n s.line;
+      line = line_with p n s.line;
     }) s.number
 
 abbrev pub effected : ℕ → State → Effect → Option State

@@ -23,5 +23,5 @@ pub mod writer;
 pub use agree::{agreement, one_reading, reads_back};
 pub use front::{front_length, read_front};
 pub use header::Header;
-pub use reader::{MOST_BYTES, read, read_within};
+pub use reader::{MOST_BYTES, MOST_STATES, read, read_within};
 pub use writer::write;

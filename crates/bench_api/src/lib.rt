@@ -4,3 +4,6 @@
 
 pub mod marks;
 pub mod reading;
+
+pub use marks::{neqoylla_mark_bits, neqoylla_mark_columns};
+pub use reading::{Outcome, neqoylla_read};

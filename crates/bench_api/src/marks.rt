@@ -1,4 +1,4 @@
-ghost use Rattle.std.specs.Prelude.{◌≡◌, ◌≢◌, false, length, IsOkAnd, MatchResult};
+ghost use Rattle.std.specs.Prelude.{◌≡◌, ◌≢◌, length, IsFalse, IsOkAnd, MatchResult};
 ghost use Rattle.base.specs.Names.{is_name};
 ghost use Rattle.formula.specs.Nodes.{shapes, roots};
 ghost use Rattle.shelf.specs.Rows.{rows_cover};
@@ -13,7 +13,7 @@ use shelf::{BitShelf, ColumnShelf, Shelf};
 
 // The name that a text is.
 fn name(text: &[u8]) -> Result<Name, Refusal>
-    ensures { MatchResult result (λ n. n ≡ text.now) (λ e. is_name text.now ≡ false) }
+    ensures { MatchResult result (λ n. n ≡ text.now) (λ e. IsFalse (is_name text.now)) }
 {
     Name::new(text).ok_or(Refusal::Garbled)
 }

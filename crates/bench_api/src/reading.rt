@@ -8,7 +8,7 @@ use model::Cell;
 /// What reading came to: the number of the refusal, or 0; what line one says; and how many names
 /// the label list has. A number for the refusal, since C has no Result.
 #[repr(C)]
-#[derive(Clone, Copy)]
+#[derive(Clone, Copy, PartialEq, Eq, Debug)]
 pub struct Outcome {
     pub refusal: u8,
     pub start: usize,

@@ -23,9 +23,9 @@ Within n ended = Unit {0}
 Within n broken = Unit {0}
 Within n (found t rest) = length rest < n
 
-mark_within : (n : ℕ) (o : Option Symbol) (rest : List ℕ) (f : Front) → length rest < n → Within n f → Within n (found_symbol o rest f)
-mark_within n None rest f h k = k
-mark_within n (Some m) rest f h k = h
+symbol_within : (n : ℕ) (o : Option Symbol) (rest : List ℕ) (f : Front) → length rest < n → Within n f → Within n (found_symbol o rest f)
+symbol_within n None rest f h k = k
+symbol_within n (Some m) rest f h k = h
 
 shorter : (b : ℕ) (bs : List ℕ) (n : ℕ) → length (drop (1 + n) (b ∷ bs)) < length (b ∷ bs)
 shorter b bs n = omega (arith, length-drop (1 + n) (b ∷ bs))
@@ -34,7 +34,7 @@ word_within : (b : ℕ) (bs : List ℕ) → Within (length (b ∷ bs)) (word_at 
 word_within b bs =
     let n = prefix_len capital bs in
     elim (capital b) as (λ x. let k = cond x (1 + prefix_len capital bs) 0 in Within (length (b ∷ bs)) (found_symbol (word (take k (b ∷ bs))) (drop k (b ∷ bs)) broken)) [
-      | true ↦ mark_within _ (word (take (1 + n) (b ∷ bs))) (drop (1 + n) (b ∷ bs)) broken (shorter b bs n) tt
+      | true ↦ symbol_within _ (word (take (1 + n) (b ∷ bs))) (drop (1 + n) (b ∷ bs)) broken (shorter b bs n) tt
       | false ↦ tt
     ]
 
@@ -49,5 +49,5 @@ name_within b bs =
 pub token_within : (bs : List ℕ) → Within (length bs) (token_at bs)
 token_within [] = tt
 token_within (b ∷ bs) =
-    mark_within (length (b ∷ bs)) (option_map signed (sign b)) bs _ (omega arith)
+    symbol_within (length (b ∷ bs)) (option_map signed (sign b)) bs _ (omega arith)
     (elim (capital b) as (λ x. Within (length (b ∷ bs)) (cond x (word_at (b ∷ bs)) (name_at (b ∷ bs)))) [ true ↦ word_within b bs | false ↦ name_within b bs ])

@@ -1,5 +1,5 @@
 -- What is claimed of the grammar and of the reader's way through the tokens.
-use Rattle.std.specs.Prelude.{◌≡◌, ℕ, true, List, [], Some, codes}
+use Rattle.std.specs.Prelude.{◌≡◌, ℕ, IsTrue, List, [], Some, codes}
 use Rattle.base.specs.Listing.{lawful}
 use Rattle.formula.specs.Choosing.{set_of}
 use Rattle.formula.specs.Tokens.{Tok}
@@ -20,5 +20,5 @@ OneReading = (text : List ℕ) (t u : Tree) → Parses text t → Parses text u 
 -- by every label list, the name tau stands for what the word TAU does
 abbrev pub TauIsSilent : Type 0
 TauIsSilent =
-    (names : List (List ℕ)) → lawful names ≡ true → (a : ℕ) → set_of names (named (codes "tau")) a
+    (names : List (List ℕ)) → IsTrue (lawful names) → (a : ℕ) → set_of names (named (codes "tau")) a
     ≡ set_of names silent a

@@ -1,14 +1,14 @@
--- A chain of operands with a sign between them, by what reading an operand and joining two values
--- may answer.
+-- A chain of operands with AND or OR between them, by what reading an operand and joining two
+-- values may answer.
 use Rattle.std.specs.Prelude.{◌≡◌, ◌≤◌, List, length, Some, None, Option, IfSome}
 use Rattle.std.specs.Borrow.{Bor}
 use denote.Ref.{MutBor}
 use denote.Param.Members.{Shared}
 use Rattle.formula.specs.declared.built.Found.{Found}
-use Rattle.formula.specs.declared.symbol.Sign.{Sign}
+use Rattle.formula.specs.declared.symbol.Connective.{Connective}
 use Rattle.formula.specs.declared.token.Token.{Token}
 use Rattle.formula.specs.Places.{unread}
-use Rattle.formula.specs.Reading.{past_sign}
+use Rattle.formula.specs.Reading.{past_connective}
 
 module _ {F V S : Type 0} (g : Shared F (Bor (List Token) × (MutBor S × Unit {0}))
     (Option (Found V) × (MutBor S × Unit {0}))) (f : F) where
@@ -27,22 +27,21 @@ module _ {F V S : Type 0} (g : Shared F (Bor (List Token) × (MutBor S × Unit {
 abbrev pub MayJoin : {F V S : Type 0} →
     Shared F (V × (V × (MutBor S × Unit {0}))) (V × (MutBor S × Unit {0})) → F → V → V → S → V → S →
     Type 0
-MayJoin {S =
-    S} g f x y s z s' = (p q : MutBor S) × (p.now ≡ s) × g.post f (x, (y, (p, tt))) (z, (q, tt))
-    × (q.now ≡ s')
+MayJoin {S = S} g f x y s z s' =
+    (p q : MutBor S) × (p.now ≡ s) × g.post f (x, (y, (p, tt))) (z, (q, tt)) × (q.now ≡ s')
 
 module _ {V S : Type 0} (Operand : Bor (List Token) → S → Option (Found V) → S → Type 0)
-    (Join : V → V → S → V → S → Type 0) (sign : Sign) where
+    (Join : V → V → S → V → S → Type 0) (c : Connective) where
   -- what goes on after the beginning of a chain
   pub data More : Found V → S → Option (Found V) → S → Type 0 where
-    ends : {left : Found V} {s : S} → past_sign sign (unread left.rest) ≡ None →
+    ends : {left : Found V} {s : S} → past_connective c (unread left.rest) ≡ None →
         More left s (Some left) s
     breaks : {left : Found V} {s s' : S} {next : Bor (List Token)} →
-        past_sign sign (unread left.rest) ≡ Some (unread next) →
+        past_connective c (unread left.rest) ≡ Some (unread next) →
         Operand next s None s' → More left s None s'
     goes_on : {left right : Found V} {s t u s' : S} {next : Bor (List Token)} {v : V}
         {r : Option (Found V)} →
-        past_sign sign (unread left.rest) ≡ Some (unread next) →
+        past_connective c (unread left.rest) ≡ Some (unread next) →
         Operand next s (Some right) t → Join left.value right.value t v u →
         More (record { value = v; rest = right.rest }) u r s' → More left s r s'
 

@@ -31,11 +31,13 @@ lay v tree.TRUE s = push s true_node
 lay v tree.FALSE s = push s false_node
 lay v (tree.NOT t) s = push (lay v t s) (not_node (top (lay v t s)))
 lay v (tree.AND t u) s =
-    let left =
-    lay v t s in let right = lay v u (lay v t s) in push right (and_node (top left) (top right))
+    let left = lay v t s in
+    let right = lay v u (lay v t s) in
+    push right (and_node (top left) (top right))
 lay v (tree.OR t u) s =
-    let left =
-    lay v t s in let right = lay v u (lay v t s) in push right (or_node (top left) (top right))
+    let left = lay v t s in
+    let right = lay v u (lay v t s) in
+    push right (or_node (top left) (top right))
 lay v (tree.short o c t) s = push (lay v t s) (short_node o (set_of v.labels c) (top (lay v t s)))
 lay v (tree.path q l c t d u) s =
     let left = lay v t s in

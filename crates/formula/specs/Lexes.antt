@@ -1,7 +1,7 @@
 -- The tokens of a text as a relation: spaces may stand between them, a sign is one character, and a
 -- word or a name is a longest run. The symbol that a sign is stands as `signed`, since `Sign` is
 -- the type of signs.
-use Rattle.std.specs.Prelude.{◌≡◌, ℕ, Bool, true, not, List, [], ◌∷◌, ◌++◌, Some}
+use Rattle.std.specs.Prelude.{◌≡◌, ℕ, Bool, true, IsTrue, not, List, [], ◌∷◌, ◌++◌, Some}
 use Rattle.std.specs.List.{list_all}
 use Rattle.base.specs.Names.{name_byte, is_name}
 use Rattle.formula.specs.declared.symbol.Symbol.{Symbol}
@@ -19,11 +19,11 @@ pub data Lexes : List ℕ → List Tok → Type 0 where
   space : {rest : List ℕ} {ts : List Tok} → Lexes rest ts → Lexes (32 ∷ rest) ts
   a_sign : {c : ℕ} {s : Sign} {rest : List ℕ} {ts : List Tok} → sign c ≡ Some s → Lexes rest ts →
       Lexes (c ∷ rest) (symbol (signed s) ∷ ts)
-  a_word : (w rest : List ℕ) {m : Symbol} {ts : List Tok} → list_all capital w ≡ true →
-      stops capital rest ≡ true → word w ≡ Some m
-      → Lexes rest ts → Lexes (w ++ rest) (symbol m ∷ ts)
-  a_name : (w rest : List ℕ) {ts : List Tok} → is_name w ≡ true → stops name_byte rest ≡ true →
-      Lexes rest ts → Lexes (w ++ rest) (name w ∷ ts)
+  a_word : (w rest : List ℕ) {m : Symbol} {ts : List Tok} → IsTrue (list_all capital w) →
+      IsTrue (stops capital rest) → word w ≡ Some m → Lexes rest ts →
+      Lexes (w ++ rest) (symbol m ∷ ts)
+  a_name : (w rest : List ℕ) {ts : List Tok} → IsTrue (is_name w) →
+      IsTrue (stops name_byte rest) → Lexes rest ts → Lexes (w ++ rest) (name w ∷ ts)
 
 -- a text has these tokens exactly when the lexer's function finds them
 abbrev pub LongestRuns : Type 0

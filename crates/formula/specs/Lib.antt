@@ -9,6 +9,7 @@ pub mod Formulas
 pub mod Grammar
 pub mod Laying
 pub mod Levels
+pub mod Lexers
 pub mod Lexes
 pub mod Nodes
 pub mod Places

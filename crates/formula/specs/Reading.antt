@@ -1,12 +1,15 @@
 -- How the reader goes through the tokens. Grammar.antt says what a formula is; that the two agree
--- is proved. The symbol that a sign is stands as `signed`, since `Sign` is the type of signs.
-use Rattle.std.specs.Prelude.{◌≡◌, ℕ, zero, suc, ◌+◌, ◌*◌, ◌<◌, Bool, false, cond, List, [], ◌∷◌, length, Some, None, Option, ◌==◌}
+-- is proved. The symbols that signs and connectives are stand as `signed` and `connective`, since
+-- `Sign` and `Connective` are types.
+use Rattle.std.specs.Prelude.{◌≡◌, ℕ, zero, suc, ◌+◌, ◌*◌, ◌<◌, Bool, true, false, List, [], ◌∷◌, length, Some, None, Option, ◌==◌, if◌then◌else◌}
 use Rattle.formula.specs.declared.symbol.Quantifier.{Quantifier}
 use Rattle.formula.specs.declared.symbol.Link.{Link}
 use Rattle.formula.specs.declared.symbol.Symbol.{Symbol}
-use Rattle.formula.specs.declared.symbol.Symbol.TheVariants.{True, False, Tau, Not, Short, Path, Between, Sign as signed}
+use Rattle.formula.specs.declared.symbol.Symbol.TheVariants.{True, False, Tau, Not, Short, Path, Between, Sign as signed, Connective as connective}
 use Rattle.formula.specs.declared.symbol.Sign.{Sign}
-use Rattle.formula.specs.declared.symbol.Sign.TheVariants.{Open, Close, BracketOpen, BracketClose, BraceOpen, BraceClose, And, Or}
+use Rattle.formula.specs.declared.symbol.Sign.TheVariants.{Open, Close, BracketOpen, BracketClose, BraceOpen, BraceClose}
+use Rattle.formula.specs.declared.symbol.Connective.{Connective}
+use Rattle.formula.specs.declared.symbol.Connective.TheVariants.{And, Or}
 use Rattle.formula.specs.Tokens.{Tok, symbol, name}
 use Rattle.formula.specs.Trees.{Acts, all, none, silent, named, complement, intersection, union, Tree, TRUE, FALSE, NOT, AND, OR, short, path}
 use Rattle.formula.specs.Grammar.{opens, begins}
@@ -19,11 +22,10 @@ code BracketOpen = 2
 code BracketClose = 3
 code BraceOpen = 4
 code BraceClose = 5
-code And = 6
-code Or = 7
 
 abbrev pub is : Sign → Symbol → Bool
 is s (signed t) = code t == code s
+is s (connective c) = false
 is s True = false
 is s False = false
 is s Tau = false
@@ -36,7 +38,30 @@ is s (Between l) = false
 abbrev pub past_sign : Sign → List Tok → Option (List Tok)
 past_sign s [] = None
 past_sign s (name w ∷ ts) = None
-past_sign s (symbol m ∷ ts) = cond (is s m) (Some ts) None
+past_sign s (symbol m ∷ ts) = if is s m then Some ts else None
+
+-- the same for AND and OR
+abbrev pub same : Connective → Connective → Bool
+same And And = true
+same And Or = false
+same Or And = false
+same Or Or = true
+
+abbrev pub is_connective : Connective → Symbol → Bool
+is_connective c (signed s) = false
+is_connective c (connective d) = same d c
+is_connective c True = false
+is_connective c False = false
+is_connective c Tau = false
+is_connective c Not = false
+is_connective c (Short o) = false
+is_connective c (Path q) = false
+is_connective c (Between l) = false
+
+abbrev pub past_connective : Connective → List Tok → Option (List Tok)
+past_connective c [] = None
+past_connective c (name w ∷ ts) = None
+past_connective c (symbol m ∷ ts) = if is_connective c m then Some ts else None
 
 abbrev pub if_there : {X : Type 0} → Option (List Tok) → (List Tok → X) → X → X
 if_there None f x = x
@@ -46,9 +71,9 @@ if_there (Some rest) f x = f rest
 abbrev pub Got : Type 0 → Type 0
 Got X = Option (X × List Tok)
 
-abbrev pub then : {X Y : Type 0} → Got X → (X → List Tok → Got Y) → Got Y
-then None f = None
-then (Some p) f = f p.0 p.1
+abbrev pub and_then : {X Y : Type 0} → Got X → (X → List Tok → Got Y) → Got Y
+and_then None f = None
+and_then (Some p) f = f p.0 p.1
 
 -- the functions of the reader: a chain of OR, or what goes on after its beginning, and so of AND
 pub data Stage (X : Type 0) : Type 0 where
@@ -71,14 +96,16 @@ pub record Rules (X : Type 0) : Type 0 where
 -- what tokens read as at each stage, in at most n steps
 unfoldable pub read : {X : Type 0} → Rules X → ℕ → Stage X → List Tok → Got X
 read R zero l ts = None
-read R (suc n) OrLevel ts = then (read R n AndLevel ts) (λ x rest. read R n (OrMore x) rest)
+read R (suc n) OrLevel ts = and_then (read R n AndLevel ts) (λ x rest. read R n (OrMore x) rest)
 read R (suc n) (OrMore x) ts =
-    if_there (past_sign Or ts) (λ us. then (read R n AndLevel us)
-    (λ y rest. read R n (OrMore (R.either x y)) rest)) (Some (x, ts))
-read R (suc n) AndLevel ts = then (read R n Tight ts) (λ x rest. read R n (AndMore x) rest)
+    if_there (past_connective Or ts)
+    (λ us. and_then (read R n AndLevel us) (λ y rest. read R n (OrMore (R.either x y)) rest))
+    (Some (x, ts))
+read R (suc n) AndLevel ts = and_then (read R n Tight ts) (λ x rest. read R n (AndMore x) rest)
 read R (suc n) (AndMore x) ts =
-    if_there (past_sign And ts) (λ us. then (read R n Tight us)
-    (λ y rest. read R n (AndMore (R.both x y)) rest)) (Some (x, ts))
+    if_there (past_connective And ts)
+    (λ us. and_then (read R n Tight us) (λ y rest. read R n (AndMore (R.both x y)) rest))
+    (Some (x, ts))
 read R (suc n) Tight ts = R.tightly (read R n) ts
 
 abbrev pub rank : {X : Type 0} → Stage X → ℕ
@@ -98,15 +125,16 @@ ended_by s x ts = if_there (past_sign s ts) (λ rest. Some (x, rest)) None
 
 -- in parentheses
 abbrev pub in_group : {X : Type 0} → Sign → Got X → Got X
-in_group s g = cond (opens s) (then g (ended_by Close)) None
+in_group s g = if opens s then and_then g (ended_by Close) else None
 
 -- action formulas
 abbrev pub action_at : Reader Acts → Symbol → List Tok → Got Acts
 action_at r (signed s) ts = in_group s (r OrLevel ts)
+action_at r (connective c) ts = None
 action_at r True ts = Some (all, ts)
 action_at r False ts = Some (none, ts)
 action_at r Tau ts = Some (silent, ts)
-action_at r Not ts = then (r Tight ts) (λ c rest. Some (complement c, rest))
+action_at r Not ts = and_then (r Tight ts) (λ c rest. Some (complement c, rest))
 action_at r (Short o) ts = None
 action_at r (Path q) ts = None
 action_at r (Between l) ts = None
@@ -121,23 +149,24 @@ action_rules = record { both = intersection; either = union; tightly = action }
 
 -- what stands in braces, after the first of them
 unfoldable pub in_braces : List Tok → Got Acts
-in_braces ts = then (read action_rules (3 * length ts + 4) OrLevel ts) (ended_by BraceClose)
+in_braces ts = and_then (read action_rules (3 * length ts + 4) OrLevel ts) (ended_by BraceClose)
 
 -- parts, by a reader for their formula
 abbrev pub with_formula : (List Tok → Got Tree) → Acts → List Tok → Got (Acts × Tree)
-with_formula r c ts = then (r ts) (λ t rest. Some ((c, t), rest))
+with_formula r c ts = and_then (r ts) (λ t rest. Some ((c, t), rest))
 
 abbrev pub after_braces : (List Tok → Got Tree) → Acts → List Tok → Got (Acts × Tree)
-after_braces r c ts = cond (begins ts) (with_formula r c ts) (Some ((c, TRUE), ts))
+after_braces r c ts = if begins ts then with_formula r c ts else Some ((c, TRUE), ts)
 
 abbrev pub part : (List Tok → Got Tree) → List Tok → Got (Acts × Tree)
 part r ts =
-    if_there (past_sign BraceOpen ts)
-    (λ us. then (in_braces us) (after_braces r)) (with_formula r all ts)
+    if_there (past_sign BraceOpen ts) (λ us. and_then (in_braces us) (after_braces r))
+    (with_formula r all ts)
 
 -- the word between two parts
 abbrev pub link_of : Symbol → Option Link
 link_of (signed s) = None
+link_of (connective c) = None
 link_of True = None
 link_of False = None
 link_of Tau = None
@@ -158,19 +187,20 @@ link (symbol m ∷ ts) = linked (link_of m) ts
 abbrev pub second_part : (List Tok → Got Tree) → Quantifier → Acts × Tree → Link → List Tok →
     Got Tree
 second_part r q p l ts =
-    then (part r ts) (λ p' rest. ended_by BracketClose (path q l p.0 p.1 p'.0 p'.1) rest)
+    and_then (part r ts) (λ p' rest. ended_by BracketClose (path q l p.0 p.1 p'.0 p'.1) rest)
 
 abbrev pub two_parts : (List Tok → Got Tree) → Quantifier → List Tok → Got Tree
-two_parts r q ts = then (part r ts) (λ p us. then (link us) (second_part r q p))
+two_parts r q ts = and_then (part r ts) (λ p us. and_then (link us) (second_part r q p))
 
 -- formulas
 abbrev pub formula_at : Reader Tree → Symbol → List Tok → Got Tree
 formula_at r (signed s) ts = in_group s (r OrLevel ts)
+formula_at r (connective c) ts = None
 formula_at r True ts = Some (TRUE, ts)
 formula_at r False ts = Some (FALSE, ts)
 formula_at r Tau ts = None
-formula_at r Not ts = then (r Tight ts) (λ t rest. Some (NOT t, rest))
-formula_at r (Short o) ts = then (part (r Tight) ts) (λ p rest. Some (short o p.0 p.1, rest))
+formula_at r Not ts = and_then (r Tight ts) (λ t rest. Some (NOT t, rest))
+formula_at r (Short o) ts = and_then (part (r Tight) ts) (λ p rest. Some (short o p.0 p.1, rest))
 formula_at r (Path q) ts = if_there (past_sign BracketOpen ts) (two_parts (r OrLevel) q) None
 formula_at r (Between l) ts = None
 

@@ -1,5 +1,6 @@
 -- The tokens of a text, by longest runs.
--- The symbol that a sign is stands as `signed`, since `Sign` is the type of signs.
+-- The symbols that signs and connectives are stand as `signed` and `connective`, since `Sign` and
+-- `Connective` are types.
 use Rattle.std.specs.Prelude.{◌≡◌, ℕ, zero, suc, Bool, ◌&&◌, List, [], ◌∷◌, length, drop, Some, None, Ok, Err, codes, Option, Result, ◌==◌, nat_le, if◌then◌else◌}
 use Rattle.std.specs.List.{prefix_len, take_while}
 use Rattle.std.specs.Option.{option_map}
@@ -13,9 +14,10 @@ use Rattle.formula.specs.declared.symbol.Operator.TheVariants.{Ex, Ef, Eg, Ax, A
 use Rattle.formula.specs.declared.symbol.Quantifier.TheVariants as quantifier
 use Rattle.formula.specs.declared.symbol.Link.TheVariants.{Until, Unless}
 use Rattle.formula.specs.declared.symbol.Symbol.{Symbol}
-use Rattle.formula.specs.declared.symbol.Symbol.TheVariants.{True, False, Tau, Not, Short, Path, Between, Sign as signed}
+use Rattle.formula.specs.declared.symbol.Symbol.TheVariants.{True, False, Tau, Not, Short, Path, Between, Sign as signed, Connective as connective}
 use Rattle.formula.specs.declared.symbol.Sign.{Sign}
-use Rattle.formula.specs.declared.symbol.Sign.TheVariants.{Open, Close, BracketOpen, BracketClose, BraceOpen, BraceClose, And, Or}
+use Rattle.formula.specs.declared.symbol.Sign.TheVariants.{Open, Close, BracketOpen, BracketClose, BraceOpen, BraceClose}
+use Rattle.formula.specs.declared.symbol.Connective.TheVariants.{And, Or}
 use Rattle.formula.specs.declared.token.Token.{Token}
 -- they are named as the types of what they hold
 use Rattle.formula.specs.declared.token.Token.TheVariants as token
@@ -47,8 +49,8 @@ word w =
     else if bytes_eq w (codes "FALSE") then Some False
     else if bytes_eq w (codes "TAU") then Some Tau
     else if bytes_eq w (codes "NOT") then Some Not
-    else if bytes_eq w (codes "AND") then Some (signed And)
-    else if bytes_eq w (codes "OR") then Some (signed Or)
+    else if bytes_eq w (codes "AND") then Some (connective And)
+    else if bytes_eq w (codes "OR") then Some (connective Or)
     else if bytes_eq w (codes "E") then Some (Path quantifier.Exists)
     else if bytes_eq w (codes "A") then Some (Path quantifier.ForAll)
     else if bytes_eq w (codes "U") then Some (Between Until)
@@ -84,16 +86,16 @@ word_at bs = found_symbol (word (take_while capital bs)) (past capital bs) broke
 
 abbrev pub name_at : List ℕ → Front
 name_at bs =
-    if is_name (take_while name_byte bs) then found (name (take_while name_byte bs))
-    (past name_byte bs)
+    if is_name (take_while name_byte bs)
+    then found (name (take_while name_byte bs)) (past name_byte bs)
     else broken
 
 -- the token that a text begins with
 abbrev pub token_at : List ℕ → Front
 token_at [] = ended
 token_at (b ∷ bs) =
-    found_symbol (option_map signed (sign b)) bs (if capital b then word_at (b ∷ bs)
-    else name_at (b ∷ bs))
+    found_symbol (option_map signed (sign b)) bs
+    (if capital b then word_at (b ∷ bs) else name_at (b ∷ bs))
 
 -- the next token, after spaces
 abbrev pub front : List ℕ → Front

@@ -3,24 +3,24 @@ ghost use Rattle.base.specs.Sets.{holds};
 ghost use Rattle.formula.specs.Choosing.{IsSet, ChoosesBy, Chooses};
 ghost use Rattle.formula.specs.Levels.{operand, stage, combined};
 ghost use Rattle.formula.specs.Places.{unread, ahead, moved};
-ghost use Rattle.formula.specs.Reading.{OrLevel, Tight, then, in_group, in_braces};
+ghost use Rattle.formula.specs.Reading.{OrLevel, Tight, and_then, in_group, in_braces};
 ghost use Rattle.formula.specs.Trees.{named, complement};
 ghost use Rattle.formula.specs.Vocabulary.{vocabulary};
 
-use crate::built::{Found, Joint, Level};
+use crate::built::{Found, Level};
 use crate::cursor::Cursor;
-use crate::symbol::{Sign, Symbol};
+use crate::symbol::{Connective, Sign, Symbol};
 use crate::token::Token;
 use base::{ActionSet, Name};
 
-impl Joint {
+impl Connective {
     // The actions that two sets have together, or those that both have.
     fn set(self, left: ActionSet, right: ActionSet) -> ActionSet
         ensures { (a : ℕ) → holds result a ≡ combined self (holds left a) (holds right a) }
     {
         match self {
-            Joint::Or => left.union(right),
-            Joint::And => left.intersection(right),
+            Connective::Or => left.union(right),
+            Connective::And => left.intersection(right),
         }
     }
 }
@@ -43,17 +43,18 @@ impl<'a> Cursor<'a> {
     fn actions(&self, level: Level) -> Option<Found<'a, ActionSet>>
         ensures { Chooses self.now (stage level) result }
     {
-        let Level::Chain(joint) = level else {
+        let Level::Chain(connective) = level else {
             return self.tight_actions();
         };
         self.chain(
-            Sign::from(joint),
+            connective,
             &mut (),
             |rest: &[Token], _: &mut ()| -> Option<Found<ActionSet>>
                 requires { length (unread rest) ≤ length (ahead self.now) }
-                ensures { Chooses (moved self.entry.now rest.entry) (stage (operand joint)) result }
-            { self.moved_to(rest).actions(joint.operand()) },
-            |left: ActionSet, right: ActionSet, _: &mut ()| joint.set(left, right),
+                ensures { Chooses (moved self.entry.now rest.entry) (stage (operand connective))
+                    result }
+            { self.moved_to(rest).actions(connective.operand()) },
+            |left: ActionSet, right: ActionSet, _: &mut ()| connective.set(left, right),
         )
     }
 
@@ -86,7 +87,8 @@ impl<'a> Cursor<'a> {
                 }),
                 Symbol::Not => onward.other_actions(),
                 Symbol::Sign(sign) => onward.grouped_actions(sign),
-                Symbol::Short(_) | Symbol::Path(_) | Symbol::Between(_) => None,
+                Symbol::Short(_) | Symbol::Path(_) | Symbol::Between(_) | Symbol::Connective(_) =>
+                    None,
             },
         }
     }
@@ -94,7 +96,7 @@ impl<'a> Cursor<'a> {
     // What follows NOT.
     #[cycle(braces)]
     fn other_actions(&self) -> Option<Found<'a, ActionSet>>
-        ensures { ChoosesBy self.now (λ r ts. then (r Tight ts)
+        ensures { ChoosesBy self.now (λ r ts. and_then (r Tight ts)
             (λ c rest. Some (complement c, rest))) result }
     {
         let Some(inner) = self.actions(Level::Tight) else {
@@ -114,7 +116,7 @@ impl<'a> Cursor<'a> {
         if sign != Sign::Open {
             return None;
         }
-        let Some(inner) = self.actions(Level::Chain(Joint::Or)) else {
+        let Some(inner) = self.actions(Level::Chain(Connective::Or)) else {
             return None;
         };
         self.closed(&inner, Sign::Close)
@@ -124,7 +126,7 @@ impl<'a> Cursor<'a> {
     pub(crate) fn braced(&self) -> Option<Found<'a, ActionSet>>
         ensures { ChoosesBy self.now (λ r ts. in_braces ts) result }
     {
-        let Some(inner) = self.actions(Level::Chain(Joint::Or)) else {
+        let Some(inner) = self.actions(Level::Chain(Connective::Or)) else {
             return None;
         };
         self.closed(&inner, Sign::BraceClose)

@@ -3,13 +3,13 @@ ghost use Rattle.std.specs.Borrow.{Bor};
 ghost use Rattle.formula.specs.Chaining.{MayRead, MayJoin, OnlyOnward, Chain};
 ghost use Rattle.formula.specs.Grammar.{begins};
 ghost use Rattle.formula.specs.Places.{unread, ahead, moved, Past, Closed, SymbolFirst, Linked};
-ghost use Rattle.formula.specs.Reading.{past_sign, link};
+ghost use Rattle.formula.specs.Reading.{past_sign, past_connective, link};
 ghost use Rattle.formula.specs.Tokens.{tok};
 ghost use Rattle.formula.specs.declared.token.Token.{Token};
 
 use crate::built::Found;
 use crate::names::Names;
-use crate::symbol::{Link, Sign, Symbol};
+use crate::symbol::{Connective, Link, Sign, Symbol};
 use crate::token::Token;
 
 // The tokens of a text that are left to read, and the names that it may use.
@@ -70,6 +70,20 @@ impl<'a> Cursor<'a> {
         }
     }
 
+    // What follows AND or OR, if it stands first.
+    fn after_connective(&self, connective: Connective) -> Option<&'a [Token]>
+        ensures { Past (ahead self.now) (past_connective connective (ahead self.now)) result }
+    {
+        let Found {
+            value: symbol,
+            rest,
+        } = self.symbol()?;
+        match symbol {
+            Symbol::Connective(found) if found == connective => Some(rest),
+            _ => None,
+        }
+    }
+
     // What was read, as far as a sign that closes it.
     pub(crate) fn closed<T: Copy>(&self, inner: &Found<'a, T>, sign: Sign) -> Option<Found<'a, T>>
         ensures { Closed sign inner.now result }
@@ -102,27 +116,27 @@ impl<'a> Cursor<'a> {
         match first.value {
             Symbol::Sign(sign) => sign == Sign::Open,
             Symbol::True | Symbol::False | Symbol::Not | Symbol::Short(_) | Symbol::Path(_) => true,
-            Symbol::Tau | Symbol::Between(_) => false,
+            Symbol::Tau | Symbol::Between(_) | Symbol::Connective(_) => false,
         }
     }
 
-    // Operands with a sign between them, joined from the left; reading and joining may both change
-    // the state.
+    // Operands with AND or OR between them, joined from the left; reading and joining may both
+    // change the state.
     pub(crate) fn chain<
         V: Copy,
         S,
         F: Fn(&'a [Token], &mut S) -> Option<Found<'a, V>>,
         J: Fn(V, V, &mut S) -> V,
-    >(&self, sign: Sign, state: &mut S, operand: F, join: J) -> Option<Found<'a, V>>
+    >(&self, connective: Connective, state: &mut S, operand: F, join: J) -> Option<Found<'a, V>>
         requires reads { (rest : Bor (List Token)) (s : _) →
             length (unread rest) ≤ length (ahead self.now) → F.pre operand rest s }
         requires onward { OnlyOnward F.Fn operand }
         requires joins { J.IsAlwaysCallable join }
-        ensures { Chain (MayRead F.Fn operand) (MayJoin J.Fn join) sign self.now.tokens state.old
-            result state.new }
+        ensures { Chain (MayRead F.Fn operand) (MayJoin J.Fn join) connective self.now.tokens
+            state.old result state.new }
     {
         let mut left = operand(self.tokens, state)?;
-        while let Some(next) = self.moved_to(left.rest).after(sign) {
+        while let Some(next) = self.moved_to(left.rest).after_connective(connective) {
             let right = operand(next, state)?;
             left = Found {
                 value: join(left.value, right.value, state),

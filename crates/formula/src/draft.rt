@@ -29,7 +29,7 @@ impl Draft {
     ghost use Rattle.formula.specs.Shapes.{shape};
 
     // Over the nodes so far.
-    pub(crate) fn over(nodes: &Nodes) -> Draft
+    pub(crate) fn from_nodes(nodes: &Nodes) -> Draft
         ensures { drafted result ≡ Some (shapes nodes.now) }
     {
         Draft {

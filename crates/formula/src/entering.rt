@@ -1,4 +1,4 @@
-ghost use Rattle.std.specs.Prelude.{◌≡◌};
+ghost use Rattle.std.specs.Prelude.{◌≡◌, ◌≤◌, length};
 ghost use Rattle.formula.specs.Checking.{is_listed, all_listed, Whole, ChecksTokens, Checks};
 ghost use Rattle.formula.specs.Entering.{Entered};
 ghost use Rattle.formula.specs.Laying.{drafted};
@@ -6,12 +6,13 @@ ghost use Rattle.formula.specs.Places.{ahead};
 ghost use Rattle.formula.specs.Tokens.{tok};
 ghost use Rattle.formula.specs.Vocabulary.{by_labels, vocabulary};
 
-use crate::built::{Joint, Level};
+use crate::built::Level;
 use crate::cursor::Cursor;
 use crate::draft::Draft;
 use crate::lexer::lex;
 use crate::names::Names;
 use crate::nodes::Nodes;
+use crate::symbol::Connective;
 use crate::token::Token;
 use base::{Labels, Refusal};
 
@@ -43,7 +44,7 @@ impl<'a> Cursor<'a> {
         ensures { Whole (vocabulary self.now.names) (ahead self.now) (drafted draft.old)
             (drafted draft.new) result }
     {
-        let built = self.formula(Level::Chain(Joint::Or), draft)?;
+        let built = self.formula(Level::Chain(Connective::Or), draft)?;
         if !built.rest.is_empty() {
             return None;
         }
@@ -54,7 +55,7 @@ impl<'a> Cursor<'a> {
     fn check_tokens(&self, nodes: &Nodes) -> Result<Nodes, Refusal>
         ensures { ChecksTokens (vocabulary self.now.names) (ahead self.now) nodes.now result }
     {
-        let mut draft = Draft::over(nodes);
+        let mut draft = Draft::from_nodes(nodes);
         self.whole(&mut draft).ok_or(Refusal::Grammar)?;
         if !self.all_listed() {
             return Err(Refusal::Nameless);
@@ -64,6 +65,22 @@ impl<'a> Cursor<'a> {
     }
 }
 
+// The table with the formula that a text of a right length is. A call of its own, so that a text
+// that is refused for its length does not pay for the room of the tokens.
+#[inline(never)]
+fn check_lexed(text: &[u8], names: Names, nodes: &Nodes) -> Result<Nodes, Refusal>
+    requires some { 1 ≤ length text.now }
+    requires few { length text.now ≤ 1024 }
+    ensures { Checks text.now (vocabulary names.entry) nodes.now result }
+{
+    let tokens = lex(text)?;
+    let start = Cursor {
+        tokens: tokens.as_slice(),
+        names,
+    };
+    start.check_tokens(nodes)
+}
+
 // The table with the formula that a text is.
 fn check(text: &[u8], names: Names, nodes: &Nodes) -> Result<Nodes, Refusal>
     ensures { Checks text.now (vocabulary names.entry) nodes.now result }
@@ -71,12 +88,7 @@ fn check(text: &[u8], names: Names, nodes: &Nodes) -> Result<Nodes, Refusal>
     if text.is_empty() || text.len() > MOST_BYTES {
         return Err(Refusal::Grammar);
     }
-    let tokens = lex(text)?;
-    let start = Cursor {
-        tokens: tokens.as_slice(),
-        names,
-    };
-    start.check_tokens(nodes)
+    check_lexed(text, names, nodes)
 }
 
 /// Enters a text: writes its nodes past those before, and answers the number of its formula. It is

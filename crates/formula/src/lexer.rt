@@ -2,10 +2,11 @@ ghost use Rattle.std.specs.Prelude.{◌≡◌, ℕ, Bool, ◌<◌, ◌≤◌, ma
 ghost use Rattle.std.specs.Iterator.{at_most};
 ghost use Rattle.std.specs.List.{take_while};
 ghost use Rattle.base.specs.declared.refusal.Refusal.TheVariants.{Grammar};
+ghost use Rattle.formula.specs.Lexers.{rest_of};
 ghost use Rattle.formula.specs.Tokens.{past, sign, word, word_at, name_at, token_at, ended, front, Cuts, Steps, tok, tokens_of};
 
 use crate::entering::MOST_BYTES;
-use crate::symbol::{Link, Operator, Quantifier, Sign, Symbol};
+use crate::symbol::{Connective, Link, Operator, Quantifier, Sign, Symbol};
 use crate::token::Token;
 use arrayvec::ArrayVec;
 use base::{Name, Refusal, is_name_byte};
@@ -34,8 +35,8 @@ fn word_of(letters: &[u8]) -> Option<Symbol>
         b"FALSE" => Some(Symbol::False),
         b"TAU" => Some(Symbol::Tau),
         b"NOT" => Some(Symbol::Not),
-        b"AND" => Some(Symbol::Sign(Sign::And)),
-        b"OR" => Some(Symbol::Sign(Sign::Or)),
+        b"AND" => Some(Symbol::Connective(Connective::And)),
+        b"OR" => Some(Symbol::Connective(Connective::Or)),
         b"E" => Some(Symbol::Path(Quantifier::Exists)),
         b"A" => Some(Symbol::Path(Quantifier::ForAll)),
         b"U" => Some(Symbol::Between(Link::Until)),
@@ -100,15 +101,15 @@ fn past_spaces(text: &[u8]) -> &[u8]
 
 /// The tokens of a text, one after another. Bytes that are no token are refused, and nothing comes
 /// after them.
-#[derive(Clone, Copy)]
+#[derive(Clone, Copy, Debug)]
 pub struct Lexer<'a> {
     rest: &'a [u8],
 }
 
 impl<'a> Lexer<'a> {
     /// Over the whole of a text.
-    pub fn over(text: &'a [u8]) -> Lexer<'a>
-        ensures { result.rest.now ≡ text.now }
+    pub fn new(text: &'a [u8]) -> Lexer<'a>
+        ensures { rest_of result ≡ text.now }
     {
         Lexer { rest: text }
     }
@@ -117,9 +118,9 @@ impl<'a> Lexer<'a> {
 impl<'a> Iterator for Lexer<'a> {
     type Item = Result<Token, Refusal>;
 
-    ghost next_gives = { λ s r t. Steps (front s.rest.now) r t.rest.now };
+    ghost next_gives = { λ s r t. Steps (front (rest_of s)) r (rest_of t) };
 
-    ghost remaining = { λ s. at_most (length s.rest.now) };
+    ghost remaining = { λ s. at_most (length (rest_of s)) };
 
     fn next(&mut self) -> Option<Result<Token, Refusal>> {
         let text = past_spaces(self.rest);
@@ -147,7 +148,7 @@ pub(crate) fn lex(text: &[u8]) -> Result<ArrayVec<Token, MOST_BYTES>, Refusal>
     ensures refusal { IfErr result (λ e. e ≡ Grammar) }
 {
     let mut tokens = ArrayVec::new();
-    for token in Lexer::over(text) {
+    for token in Lexer::new(text) {
         tokens.push(token?);
     }
     Ok(tokens)

@@ -20,5 +20,5 @@ pub use entering::{MOST_BYTES, enter};
 pub use lexer::Lexer;
 pub use node::{Node, Part};
 pub use nodes::{MOST_FORMULAS, MOST_NODES, Nodes, Span};
-pub use symbol::{Link, Operator, Quantifier, Sign, Symbol};
+pub use symbol::{Connective, Link, Operator, Quantifier, Sign, Symbol};
 pub use token::Token;

@@ -3,7 +3,7 @@ use base::{ActionSet, Filler};
 
 /// A part of an operator: the actions of its steps, and the number of the formula of the states
 /// that they reach.
-#[derive(Clone, Copy)]
+#[derive(Clone, Copy, PartialEq, Eq, Debug)]
 pub struct Part {
     pub actions: ActionSet,
     pub child: usize,
@@ -11,7 +11,7 @@ pub struct Part {
 
 /// A node of a formula: TRUE, FALSE, NOT, AND, OR, or an operator with its parts. Formulas below it
 /// stand as numbers of nodes.
-#[derive(Clone, Copy)]
+#[derive(Clone, Copy, PartialEq, Eq, Debug)]
 pub enum Node {
     True,
     False,

@@ -14,7 +14,7 @@ pub const MOST_FORMULAS: usize = 8;
 /// The nodes of at most 8 formulas, 48 nodes in all, and the number of each formula's last node,
 /// its root. The nodes of a formula follow those of the formula before it; each stands after those
 /// below it, which are nodes of the same formula.
-#[derive(Clone, Copy)]
+#[derive(Clone, Copy, PartialEq, Eq, Debug)]
 pub struct Nodes {
     pub(crate) nodes: BoundedVec<Node, MOST_NODES>,
     pub(crate) roots: BoundedVec<usize, MOST_FORMULAS>,
@@ -34,7 +34,7 @@ pub struct Span {
 }
 
 impl Nodes {
-    ghost use Rattle.std.specs.Prelude.{◌≡◌, ◌↔◌, ◌<◌, ◌≤◌, [], ◌∷◌, ◌++◌, ◌-◌, length, IsSome, IfSome, OnSome};
+    ghost use Rattle.std.specs.Prelude.{◌≡◌, ◌↔◌, ◌<◌, ◌≤◌, [], ◌∷◌, ◌++◌, ◌-◌, length, IsTrue, IsSome, IfSome, OnSome};
     ghost use Rattle.std.specs.Option.{option_map};
     ghost use Rattle.std.specs.List.{slice_get};
     ghost use Rattle.formula.specs.Nodes.{shapes, roots, SpanOf};
@@ -56,6 +56,13 @@ impl Nodes {
         ensures { result ≡ length (shapes self.now) }
     {
         self.as_slice().len()
+    }
+
+    /// Whether there is no node, and so no formula.
+    pub fn is_empty(&self) -> bool
+        ensures { IsTrue result ↔ (shapes self.now ≡ []) }
+    {
+        self.as_slice().is_empty()
     }
 
     /// How many formulas there are.

@@ -3,28 +3,28 @@ ghost use Rattle.formula.specs.Building.{BuildsBy, Builds, BuildsPart};
 ghost use Rattle.formula.specs.Choosing.{IsSet};
 ghost use Rattle.formula.specs.Levels.{operand, stage, node_of};
 ghost use Rattle.formula.specs.Places.{unread, ahead, moved};
-ghost use Rattle.formula.specs.Reading.{OrLevel, Tight, then, if_there, past_sign, in_group, with_formula, after_braces, part, two_parts};
+ghost use Rattle.formula.specs.Reading.{OrLevel, Tight, and_then, if_there, past_sign, in_group, with_formula, after_braces, part, two_parts};
 ghost use Rattle.formula.specs.Shapes.{shape};
 ghost use Rattle.formula.specs.Trees.{Acts, NOT, short};
 ghost use Rattle.formula.specs.Vocabulary.{vocabulary};
 ghost use Rattle.formula.specs.declared.symbol.Sign.TheVariants.{BracketOpen};
 
-use crate::built::{Found, Joint, Level};
+use crate::built::{Found, Level};
 use crate::cursor::Cursor;
 use crate::draft::Draft;
 use crate::node::{Node, Part};
-use crate::symbol::{Operator, Quantifier, Sign, Symbol};
+use crate::symbol::{Connective, Operator, Quantifier, Sign, Symbol};
 use crate::token::Token;
 use base::ActionSet;
 
-impl Joint {
+impl Connective {
     // A node over two others.
     fn node(self, left: usize, right: usize) -> Node
         ensures { shape result ≡ node_of self left right }
     {
         match self {
-            Joint::Or => Node::Or(left, right),
-            Joint::And => Node::And(left, right),
+            Connective::Or => Node::Or(left, right),
+            Connective::And => Node::And(left, right),
         }
     }
 }
@@ -37,18 +37,18 @@ impl<'a> Cursor<'a> {
     pub(crate) fn formula(&self, level: Level, draft: &mut Draft) -> Option<Found<'a, usize>>
         ensures { Builds self.now draft.old draft.new (stage level) result }
     {
-        let Level::Chain(joint) = level else {
+        let Level::Chain(connective) = level else {
             return self.tight(draft);
         };
         self.chain(
-            Sign::from(joint),
+            connective,
             draft,
             |rest: &[Token], draft: &mut Draft| -> Option<Found<usize>>
                 requires { length (unread rest) ≤ length (ahead self.now) }
                 ensures { Builds (moved self.entry.now rest.entry) draft.entry.now draft.exit.now
-                    (stage (operand joint)) result }
-            { self.moved_to(rest).formula(joint.operand(), draft) },
-            |left: usize, right: usize, draft: &mut Draft| draft.put(joint.node(left, right)),
+                    (stage (operand connective)) result }
+            { self.moved_to(rest).formula(connective.operand(), draft) },
+            |left: usize, right: usize, draft: &mut Draft| draft.put(connective.node(left, right)),
         )
     }
 
@@ -72,7 +72,7 @@ impl<'a> Cursor<'a> {
             Symbol::Sign(sign) => onward.grouped(sign, draft),
             Symbol::Short(operator) => onward.one_part(operator, draft),
             Symbol::Path(quantifier) => onward.two_parts(quantifier, draft),
-            Symbol::Tau | Symbol::Between(_) => None,
+            Symbol::Tau | Symbol::Between(_) | Symbol::Connective(_) => None,
         }
     }
 
@@ -80,7 +80,7 @@ impl<'a> Cursor<'a> {
     #[cycle(formulas)]
     fn negated(&self, draft: &mut Draft) -> Option<Found<'a, usize>>
         ensures { BuildsBy self.now draft.old draft.new
-            (λ r ts. then (r Tight ts) (λ t rest. Some (NOT t, rest))) result }
+            (λ r ts. and_then (r Tight ts) (λ t rest. Some (NOT t, rest))) result }
     {
         let inner = self.formula(Level::Tight, draft)?;
         Some(Found {
@@ -98,7 +98,7 @@ impl<'a> Cursor<'a> {
         if sign != Sign::Open {
             return None;
         }
-        let inner = self.formula(Level::Chain(Joint::Or), draft)?;
+        let inner = self.formula(Level::Chain(Connective::Or), draft)?;
         self.closed(&inner, Sign::Close)
     }
 
@@ -106,7 +106,7 @@ impl<'a> Cursor<'a> {
     #[cycle(formulas)]
     fn one_part(&self, operator: Operator, draft: &mut Draft) -> Option<Found<'a, usize>>
         ensures { BuildsBy self.now draft.old draft.new
-            (λ r ts. then (part (r Tight) ts) (λ p rest. Some (short operator p.0 p.1, rest)))
+            (λ r ts. and_then (part (r Tight) ts) (λ p rest. Some (short operator p.0 p.1, rest)))
             result }
     {
         let Some(inner) = self.part(Level::Tight, draft) else {
@@ -130,13 +130,16 @@ impl<'a> Cursor<'a> {
             result }
     {
         let inside = self.after(Sign::BracketOpen)?;
-        let Some(first) = self.moved_to(inside).part(Level::Chain(Joint::Or), draft) else {
+        let Some(first) = self
+            .moved_to(inside)
+            .part(Level::Chain(Connective::Or), draft)
+        else {
             return None;
         };
         let link = self.moved_to(first.rest).link()?;
         let Some(second) = self
             .moved_to(link.rest)
-            .part(Level::Chain(Joint::Or), draft)
+            .part(Level::Chain(Connective::Or), draft)
         else {
             return None;
         };

@@ -66,7 +66,7 @@ impl fmt::Display for Link {
     }
 }
 
-/// What holds formulas together: the brackets of the three kinds, and the words AND and OR.
+/// The signs: parentheses, brackets and braces.
 #[derive(Clone, Copy, PartialEq, Eq, Debug)]
 pub enum Sign {
     Open,
@@ -75,6 +75,11 @@ pub enum Sign {
     BracketClose,
     BraceOpen,
     BraceClose,
+}
+
+/// The words that join what stands on both sides of them. AND binds closer than OR.
+#[derive(Clone, Copy, PartialEq, Eq, Debug)]
+pub enum Connective {
     And,
     Or,
 }
@@ -83,6 +88,7 @@ pub enum Sign {
 #[derive(Clone, Copy, PartialEq, Eq, Debug)]
 pub enum Symbol {
     Sign(Sign),
+    Connective(Connective),
     True,
     False,
     Tau,

@@ -6,7 +6,7 @@ use crate::symbol::Symbol;
 use base::Name;
 
 /// What a text is made of, spaces apart.
-#[derive(Clone, Copy)]
+#[derive(Clone, Copy, PartialEq, Eq, Debug)]
 pub enum Token {
     Symbol(Symbol),
     Name(Name),

@@ -1,7 +1,7 @@
 use crate::marked::MarkedOperator;
 use crate::reading::{core_of, operator_of};
 use base::Refusal;
-use formula::nodes::Nodes;
+use formula::Nodes;
 use model::TransitionSystem;
 use search::finding::refusal;
 use search::found::Found;

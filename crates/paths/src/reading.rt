@@ -3,9 +3,8 @@ ghost use Rattle.formula.specs.Shapes.{shape, formula_at};
 ghost use Rattle.marking.specs.Marking.{OwnTo};
 ghost use Rattle.paths.specs.Cores.{core, node_at, ReadsAs};
 
-use formula::node::Node;
-use formula::nodes::Span;
-use marking::path_formula::PathFormula;
+use formula::{Node, Span};
+use marking::PathFormula;
 
 // The number of the node that is left of a formula's root when leading NOTs are set aside.
 pub(crate) fn core_of(nodes: &[Node], span: Span) -> usize
@@ -30,7 +29,7 @@ pub(crate) fn operator_of(node: Node) -> Option<PathFormula>
     ensures { ReadsAs node result }
 {
     match node {
-        Node::Short { operator, part } => Some(PathFormula::two_parts(operator, part)),
+        Node::Short { operator, part } => Some(PathFormula::from_short(operator, part)),
         Node::Path {
             quantifier,
             link,

@@ -1,6 +1,5 @@
 use base::{Labels, Name, Refusal};
-use formula::enter;
-use formula::nodes::Nodes;
+use formula::{Nodes, enter};
 use marking::mark;
 use model::cell::Cell;
 use model::grid::Grid;

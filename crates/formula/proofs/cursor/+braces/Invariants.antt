@@ -8,7 +8,7 @@ abbrev pub decreases-Cursor::actions : goal.decreases-Cursor::actions
 decreases-Cursor::actions l = at_level Acts (ahead l.self.now) l.level
 
 abbrev pub decreases-Cursor::actions-chain+arg3 : goal.decreases-Cursor::actions-chain+arg3
-decreases-Cursor::actions-chain+arg3 l = at_operand Acts (unread l.rest) (operand l.joint)
+decreases-Cursor::actions-chain+arg3 l = at_operand Acts (unread l.rest) (operand l.connective)
 
 abbrev pub decreases-Cursor::grouped_actions : goal.decreases-Cursor::grouped_actions
 decreases-Cursor::grouped_actions l = calls (ahead l.self.now) 7

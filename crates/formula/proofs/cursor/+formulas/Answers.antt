@@ -6,7 +6,7 @@ use Rattle.formula.specs.Laying.{drafted, push, top}
 use Rattle.formula.specs.Shapes.{not_node}
 use Rattle.formula.specs.Levels.{stage, node_of}
 use Rattle.formula.specs.Places.{ahead, Linked}
-use Rattle.formula.specs.Reading.{OrLevel, Tight, then, read, part, link, formula_rules}
+use Rattle.formula.specs.Reading.{OrLevel, Tight, and_then, read, part, link, formula_rules}
 use Rattle.formula.specs.Trees.{Tree, TRUE, FALSE, NOT, short, path, all}
 use Rattle.formula.proofs.Buildings as buildings
 use Rattle.formula.proofs.Findings.{level_chain, none_found}
@@ -16,18 +16,18 @@ use Rattle.formula.proofs.cursor.+formulas.Goals as goal
 
 pub Cursor::formula-returns : goal.Cursor::formula-returns
 Cursor::formula-returns t c =
-    let names = vocabulary c.args.self.now.names in let j = c.in-Chain.joint in
+    let names = vocabulary c.args.self.now.names in let j = c.in-Chain.connective in
     rw c.in-Chain.is
     (level_chain formula_rules j c.args.self.now (Laid names) _ _ (λ at s r s' o. rw (sym o.2, sym o.4) o.3)
     (λ x y s t u u' v w z h k i.
-    let e : (drafted i.1.now ≡ push (drafted i.0.now) (node_of c.in-Chain.joint v w)) × (z ≡ top (drafted i.1.now)) = search of_calls in
-    buildings.joined names j x y s t u u' i.0.now i.1.now v w z h k i.2 i.4 e.0 e.1) _ c.from.ensures _ _ _ c.chain.ensures)
+    let e : (drafted i.1.now ≡ push (drafted i.0.now) (node_of c.in-Chain.connective v w)) × (z ≡ top (drafted i.1.now)) = search of_calls in
+    buildings.joined names j x y s t u u' i.0.now i.1.now v w z h k i.2 i.4 e.0 e.1) _ _ _ c.chain.ensures)
 
 pub Cursor::negated-returns : goal.Cursor::negated-returns
 Cursor::negated-returns t c =
     let d = c.in_ok-inner.ensures in (
       NOT d.0,
-      (λ n h. ap (λ g. then g (λ u rest. Some (NOT u, rest))) (d.1 n (omega arith))),
+      (λ n h. ap (λ g. and_then g (λ u rest. Some (NOT u, rest))) (d.1 n (omega arith))),
       (
         layings.one_below (vocabulary c.args.self.now.names) not_node d.0 (drafted c.args.draft.now) _ (drafted c.put.new.self) c.in_ok-inner.inner.value d.2.0 d.2.1 c.put.ensures.after,
         c.put.ensures.number,
@@ -39,7 +39,7 @@ pub Cursor::one_part-returns : goal.Cursor::one_part-returns
 Cursor::one_part-returns t c =
     let d = c.in-Some.ensures in let y = c.in-Some.inner.value in let u = d.0 in (
       short c.args.operator u.0 u.1,
-      (λ n h. ap (λ g. then g (λ p rest. Some (short c.args.operator p.0 p.1, rest))) (d.1 n h)),
+      (λ n h. ap (λ g. and_then g (λ p rest. Some (short c.args.operator p.0 p.1, rest))) (d.1 n h)),
       (
         layings.laid-short (vocabulary c.args.self.now.names) c.args.operator u.0 u.1 y.actions (drafted c.args.draft.now) (drafted c.part.new.draft)
             (drafted c.put.new.self) y.child d.2.1 d.2.0.0 d.2.0.1 c.put.ensures.after,
@@ -89,7 +89,7 @@ pub Cursor::with_formula-returns : goal.Cursor::with_formula-returns
 Cursor::with_formula-returns t c = λ k h.
     let d = c.in_ok-inner.ensures in (
       (k, d.0),
-      (λ n m. ap (λ g. then g (λ u rest. Some ((k, u), rest))) (d.1 n (omega (arith, (rank_small {X = Tree} (stage c.args.level)).1)))),
+      (λ n m. ap (λ g. and_then g (λ u rest. Some ((k, u), rest))) (d.1 n (omega (arith, (rank_small {X = Tree} (stage c.args.level)).1)))),
       (d.2, h),
       d.3,
     )
@@ -98,37 +98,37 @@ pub Cursor::tight-returns-in_err-first : goal.Cursor::tight-returns-in_err-first
 Cursor::tight-returns-in_err-first t c =
     let s = c.args.self.now in
     none_found (λ names. Laid names c.args.draft.now c.args.draft.now) s 1 (λ n. read formula_rules n Tight) c.from_residual.result c.from_residual.ensures
-    (tight-by formula_rules (ahead s) None (λ n h. buildings.no_mark (read formula_rules n) (ahead s) c.in_err-first.ensures))
+    (tight-by formula_rules (ahead s) None (λ n h. buildings.no_symbol (read formula_rules n) (ahead s) c.in_err-first.ensures))
 
 pub Cursor::tight-returns-in-True : goal.Cursor::tight-returns-in-True
 Cursor::tight-returns-in-True t c =
     let s = c.args.self.now in
-    buildings.by_mark s _ c.args.draft.now c.put.new.self _ True c.in_ok-first.first.rest c.in_ok-first.ensures.0 c.in-True.is refl (Some (record { value = c.put.result; rest = c.in_ok-first.first.rest }))
+    buildings.by_symbol s _ c.args.draft.now c.put.new.self _ True c.in_ok-first.first.rest c.in_ok-first.ensures.0 c.in-True.is refl (Some (record { value = c.put.result; rest = c.in_ok-first.first.rest }))
     (TRUE, (λ n h. refl), (c.put.ensures.after, c.put.ensures.number), omega arith)
 
 pub Cursor::tight-returns-in-False : goal.Cursor::tight-returns-in-False
 Cursor::tight-returns-in-False t c =
     let s = c.args.self.now in
-    buildings.by_mark s _ c.args.draft.now c.put-in-False.new.self _ False c.in_ok-first.first.rest c.in_ok-first.ensures.0 c.in-False.is refl (Some (record { value = c.put-in-False.result; rest = c.in_ok-first.first.rest }))
+    buildings.by_symbol s _ c.args.draft.now c.put-in-False.new.self _ False c.in_ok-first.first.rest c.in_ok-first.ensures.0 c.in-False.is refl (Some (record { value = c.put-in-False.result; rest = c.in_ok-first.first.rest }))
     (FALSE, (λ n h. refl), (c.put-in-False.ensures.after, c.put-in-False.ensures.number), omega arith)
 
 pub Cursor::tight-returns-in-Not : goal.Cursor::tight-returns-in-Not
 Cursor::tight-returns-in-Not t c =
-    buildings.by_mark c.args.self.now _ c.args.draft.now c.negated.new.draft _ Not c.in_ok-first.first.rest c.in_ok-first.ensures.0 c.in-Not.is c.moved_to-onward.ensures c.negated.result c.negated.ensures
+    buildings.by_symbol c.args.self.now _ c.args.draft.now c.negated.new.draft _ Not c.in_ok-first.first.rest c.in_ok-first.ensures.0 c.in-Not.is c.moved_to-onward.ensures c.negated.result c.negated.ensures
 
 pub Cursor::tight-returns-in-Sign : goal.Cursor::tight-returns-in-Sign
 Cursor::tight-returns-in-Sign t c =
-    buildings.by_mark c.args.self.now _ c.args.draft.now c.grouped.new.draft _ (signed c.in-Sign.sign) c.in_ok-first.first.rest c.in_ok-first.ensures.0 c.in-Sign.is c.moved_to-onward.ensures c.grouped.result c.grouped.ensures
+    buildings.by_symbol c.args.self.now _ c.args.draft.now c.grouped.new.draft _ (signed c.in-Sign.sign) c.in_ok-first.first.rest c.in_ok-first.ensures.0 c.in-Sign.is c.moved_to-onward.ensures c.grouped.result c.grouped.ensures
 
 pub Cursor::tight-returns-in-Short : goal.Cursor::tight-returns-in-Short
 Cursor::tight-returns-in-Short t c =
-    buildings.by_mark c.args.self.now _ c.args.draft.now c.one_part.new.draft _ (Short c.in-Short.operator) c.in_ok-first.first.rest c.in_ok-first.ensures.0 c.in-Short.is c.moved_to-onward.ensures c.one_part.result c.one_part.ensures
+    buildings.by_symbol c.args.self.now _ c.args.draft.now c.one_part.new.draft _ (Short c.in-Short.operator) c.in_ok-first.first.rest c.in_ok-first.ensures.0 c.in-Short.is c.moved_to-onward.ensures c.one_part.result c.one_part.ensures
 
 pub Cursor::tight-returns-in-Path : goal.Cursor::tight-returns-in-Path
 Cursor::tight-returns-in-Path t c =
-    buildings.by_mark c.args.self.now _ c.args.draft.now c.two_parts.new.draft _ (Path c.in-Path.quantifier) c.in_ok-first.first.rest c.in_ok-first.ensures.0 c.in-Path.is c.moved_to-onward.ensures c.two_parts.result c.two_parts.ensures
+    buildings.by_symbol c.args.self.now _ c.args.draft.now c.two_parts.new.draft _ (Path c.in-Path.quantifier) c.in_ok-first.first.rest c.in_ok-first.ensures.0 c.in-Path.is c.moved_to-onward.ensures c.two_parts.result c.two_parts.ensures
 
 pub Cursor::tight-returns-in-Tau : goal.Cursor::tight-returns-in-Tau
 Cursor::tight-returns-in-Tau t c =
-    buildings.by_mark c.args.self.now _ c.args.draft.now c.args.draft.now c.in_ok-first.first.value c.in_ok-first.first.value c.in_ok-first.first.rest c.in_ok-first.ensures.0 refl refl None
+    buildings.by_symbol c.args.self.now _ c.args.draft.now c.args.draft.now c.in_ok-first.first.value c.in_ok-first.first.value c.in_ok-first.first.rest c.in_ok-first.ensures.0 refl refl None
     (λ n h. buildings.no_formula (read formula_rules n) c.in_ok-first.first.value _ c.in-Tau.is)

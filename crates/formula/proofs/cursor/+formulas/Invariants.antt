@@ -8,7 +8,7 @@ abbrev pub decreases-Cursor::formula : goal.decreases-Cursor::formula
 decreases-Cursor::formula l = at_level Tree (ahead l.self.now) l.level
 
 abbrev pub decreases-Cursor::formula-chain+arg3 : goal.decreases-Cursor::formula-chain+arg3
-decreases-Cursor::formula-chain+arg3 l = at_operand Tree (unread l.rest) (operand l.joint)
+decreases-Cursor::formula-chain+arg3 l = at_operand Tree (unread l.rest) (operand l.connective)
 
 abbrev pub decreases-Cursor::tight : goal.decreases-Cursor::tight
 decreases-Cursor::tight l = calls (ahead l.self.now) 1

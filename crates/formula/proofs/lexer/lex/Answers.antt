@@ -5,7 +5,7 @@ use Rattle.formula.proofs.lexer.lex.Goals as goal
 
 pub loop-token-init : goal.loop-token-init
 loop-token-init c =
-    let rest : c.into_iter-token-iterator.result.rest.now ≡ c.args.text.now = ap (λ s. s.rest.now) c.into_iter-token-iterator.ensures.into_iter_gives ∙ c.over-token-items.ensures in
+    let rest : c.into_iter-token-iterator.result.rest.now ≡ c.args.text.now = ap (λ s. s.rest.now) c.into_iter-token-iterator.ensures.into_iter_gives ∙ c.new-token-items.ensures in
     record {
       lexed = begins _ _ _ c.new-tokens.ensures rest;
       few = omega (arith, ap length c.new-tokens.ensures, ap length rest);

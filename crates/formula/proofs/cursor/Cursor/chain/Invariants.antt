@@ -7,8 +7,8 @@ abbrev pub invariant-loop-next : goal.invariant-loop-next
 invariant-loop-next g l =
     (length (unread l.left.rest) ≤ length (unread l.self.tokens))
     × ((r : _) (s : _) →
-    More (MayRead g.F.Fn l.operand) (MayJoin g.J.Fn l.join) l.sign l.left l.state r s →
-    Chain (MayRead g.F.Fn l.operand) (MayJoin g.J.Fn l.join) l.sign l.self.tokens l.fn.state r s)
+    More (MayRead g.F.Fn l.operand) (MayJoin g.J.Fn l.join) l.connective l.left l.state r s →
+    Chain (MayRead g.F.Fn l.operand) (MayJoin g.J.Fn l.join) l.connective l.self.tokens l.fn.state r s)
 
 abbrev pub decreases-loop-next : goal.decreases-loop-next
 decreases-loop-next g l = length (unread l.left.rest)
