@@ -2,5 +2,6 @@
 // says what came out of the last time.
 #![tactic(auto)]
 
+pub mod asking;
 pub mod marks;
 pub mod reading;
