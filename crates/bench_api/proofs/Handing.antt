@@ -1,5 +1,5 @@
 -- What a question for a deciding path answers, as the answer to a caller outside.
-use Rattle.std.proofs.Common.{◌≡◌, ◌≢◌, ℕ, ◌<◌, ◌≤◌, ◌⊎◌, inl, inr, List, length, get_or, Err, Some, None, ap, sym, ◌∙◌, subst, arith}
+use Rattle.std.proofs.Common.{◌≡◌, ℕ, ◌≤◌, inl, inr, List, length, get_or, Err, None, ap, sym, ◌∙◌, subst, arith}
 use Rattle.base.specs.declared.refusal.Refusal.{Refusal}
 use Rattle.base.specs.declared.refusal.Refusal.TheVariants.{Short, Garbled, Range, Crowded, Grammar, Nameless, Full, Unheard, Silent, TooBig}
 use Rattle.meaning.specs.DecidingPaths.{HandedOutOf}
@@ -7,7 +7,6 @@ use Rattle.meaning.specs.Lts.{Lts}
 use Rattle.meaning.specs.Scales.{Scale}
 use Rattle.meaning.specs.Sheets.{Sheets}
 use Rattle.formula.specs.declared.nodes.Nodes.{Nodes}
-use Rattle.formula.specs.Nodes.{roots}
 use Rattle.marking.specs.Marking.{AllMarked, Marked}
 use Rattle.model.specs.declared.cell.Cell.{Cell}
 use Rattle.model.specs.Grids.{GridOver}

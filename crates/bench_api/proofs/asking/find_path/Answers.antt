@@ -1,6 +1,6 @@
 use Rattle.std.proofs.Common.{refl}
 use Rattle.bench_api.specs.Asking.{no_formula}
-use Rattle.bench_api.proofs.Handing.{handed, refused, unmarked}
+use Rattle.bench_api.proofs.Handing.{handed}
 use Rattle.search.specs.Finding.{held}
 use Rattle.bench_api.proofs.asking.find_path.Goals as goal
 
