@@ -95,3 +95,70 @@ pub fn all() -> Vec<(&'static str, Vec<Cell>, Vec<Formula>)> {
         ("chain s to s - 1", down(), formulas(B)),
     ]
 }
+
+/// A grid to look for a lightest path on, with tariffs for airtime and for peak. Only one step is by b, and its tariff is as great as can be, so that
+/// every state is settled before it is certain that nothing is lighter.
+pub struct Ways {
+    pub name: &'static str,
+    pub cells: Vec<Cell>,
+    pub airtime: [u16; 64],
+    pub peak: [u16; 64],
+}
+
+fn tariffs(each: impl Fn(usize) -> u16) -> [u16; 64] {
+    let mut tariffs = std::array::from_fn(each);
+    tariffs[usize::from(B)] = u16::MAX;
+    tariffs
+}
+
+/// Every slot is filled, with a random target and a random action of those past b.
+fn random_ways() -> Ways {
+    let mut random = Random::new(13);
+    let mut cells: Vec<Cell> = (0..STATES * SLOTS).map(|_| Cell::step(3 + random.below(61) as u8, random.below(STATES))).collect();
+    cells[40_000 * SLOTS] = Cell::step(B, 0);
+    let each: Vec<u16> = (0..64).map(|_| 1 + random.below(1_000) as u16).collect();
+    let tariffs = tariffs(|action| each[action]);
+    Ways { name: "8 random slots", cells, airtime: tariffs, peak: tariffs }
+}
+
+/// How many layers of states are reached by 8 ever lighter ways.
+const LAYERS: usize = 3;
+
+/// The states of a layer are of 8 groups; a state of group h is reached from one state of each group of the layer before, and the later the group is
+/// settled, the lighter is the way. The first layer hangs on a tree, by steps whose tariff puts its groups in order.
+fn ladder() -> Ways {
+    const M: usize = 282;
+    const TREE: usize = 8 * M + 1;
+    const WIDE: usize = 7 * M + 1;
+    let layer = |layer: usize, group: usize, i: usize| TREE + (layer * WIDE + i) * 8 + group;
+    let mut cells = vec![EMPTY; STATES * SLOTS];
+    for state in 0..TREE {
+        for slot in 0..SLOTS {
+            let child = 8 * state + 1 + slot;
+            let action = if child < TREE { 3 } else { 4 + slot as u8 };
+            cells[state * SLOTS + slot] = Cell::step(action, child);
+        }
+    }
+    for from in 0..LAYERS {
+        for i in 0..WIDE {
+            for g in 0..8 {
+                for h in 0..8 {
+                    let to = (i * 31 + g * 101 + h * 7) % WIDE;
+                    let action = 12 + from * 15 + h + 7 - g;
+                    cells[layer(from, g, i) * SLOTS + h] = Cell::step(action as u8, layer(from + 1, h, to));
+                }
+            }
+        }
+    }
+    cells[layer(LAYERS, 7, WIDE - 1) * SLOTS] = Cell::step(B, 0);
+    let rung = |action: usize| ((action - 12) / 15, (action - 12) % 15);
+    let first = |action: usize| if action < 4 { 0 } else { action as u16 - 3 };
+    let airtime = tariffs(|action| if action < 12 { first(action) } else { let (from, x) = rung(action); (100 + (from + 2) * x) as u16 });
+    let peak = tariffs(|action| if action < 12 { first(action) } else { let (from, x) = rung(action); (100 * (from + 1) + x) as u16 });
+    Ways { name: "8 ever lighter ways", cells, airtime, peak }
+}
+
+pub fn ways() -> Vec<Ways> {
+    let even = tariffs(|_| 1);
+    vec![random_ways(), Ways { name: "chain s to s + 1", cells: up(), airtime: even, peak: even }, ladder()]
+}

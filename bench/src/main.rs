@@ -8,6 +8,7 @@ mod grids;
 mod model;
 mod node;
 mod ours;
+mod paths;
 mod random;
 mod reader;
 mod shelf;
@@ -16,8 +17,9 @@ mod text;
 
 use cell::Cell;
 use model::Grid;
-use node::Node;
-use ours::{Outcome, Reading, UNTOUCHED};
+use node::{ActionSet, Node, Operator};
+use ours::{By, Outcome, PathOutcome, Reading, Room, UNTOUCHED};
+use paths::{Airtime, BLANK, Peak, Question, Step, Weight};
 use shelf::{BitShelf, ColumnShelf, SHEETS};
 use std::hint::black_box;
 use std::time::Duration;
@@ -243,16 +245,118 @@ fn compare_marking(trials: usize, rounds: usize) {
     }
 }
 
-fn main() {
-    // `reading` or `marking` alone; `quick` has each contender do its work a few times only, as under a tool that counts instructions.
+/// The formula of all rows: a step by b is to come.
+const TO_B: &str = "EF {b}";
+
+fn to_b() -> [Node; 2] {
+    [Node::True, Node::Short { operator: Operator::Ef, actions: ActionSet::only(2), child: 0 }]
+}
+
+/// Marks the formula, and hands the question to a search.
+fn with_question<R>(cells: &[Cell], tariffs: &[u16; 64], search: impl FnOnce(&Question<Grid, ColumnShelf>) -> R) -> R {
+    let (states, slots) = sizes();
+    let grid = Grid::over(cells, states, slots);
+    let mut columns = vec![0u64; states];
+    let mut shelf = ColumnShelf::open(&mut columns, states);
+    let nodes = to_b();
+    sweeps::mark_all(&grid, &mut shelf, &nodes);
+    let path = nodes[1].path().expect("an operator");
+    search(&Question { model: &grid, shelf: &shelf, path, tariffs })
+}
+
+#[inline(never)]
+fn path_same<W: Weight>(cells: &[Cell], tariffs: &[u16; 64], stem: &mut [Step], rounds: usize) -> usize {
+    with_question(cells, tariffs, |question| {
+        let mut work = vec![paths::same::Entry::<W>::blank(); cells.len() / grids::SLOTS];
+        let mut count = 0;
+        for _ in 0..rounds {
+            count = black_box(question).same_way(&mut work, stem);
+        }
+        count
+    })
+}
+
+#[inline(never)]
+fn path_lazy<W: Weight>(cells: &[Cell], tariffs: &[u16; 64], rounds: usize) -> Vec<Step> {
+    with_question(cells, tariffs, |question| {
+        let mut steps = Vec::new();
+        for _ in 0..rounds {
+            steps = paths::lazy::<_, _, W>(black_box(question));
+        }
+        steps
+    })
+}
+
+/// The same way comes to the same path, and the other to one that is as light; all are decisive.
+fn agree_on_paths<W: Weight>(by: By, cells: &[Cell], tariffs: &[u16; 64], room: &mut Room) -> usize {
+    let outcome = ours::find_path(by, TO_B, cells, grids::STATES, grids::SLOTS, tariffs, 2, room);
+    let mut stem = vec![BLANK; grids::STATES];
+    let count = path_same::<W>(cells, tariffs, &mut stem, 2);
+    assert_eq!(outcome, PathOutcome { kind: 2, stem: count, cycle: 0 });
+    assert!(room.stem == stem);
+    let lazy = path_lazy::<W>(cells, tariffs, 2);
+    with_question(cells, tariffs, |question| {
+        assert!(question.is_decisive(&stem[..count]) && question.is_decisive(&lazy));
+        assert!(question.weigh::<W>(&stem[..count]) == question.weigh::<W>(&lazy));
+    });
+    count
+}
+
+fn compare_path<W: Weight>(by: By, name: &str, cells: &[Cell], tariffs: &[u16; 64], trials: usize, rounds: usize) {
+    let states = grids::STATES;
+    let mut room = Room { columns: vec![0; states], stem: vec![BLANK; states], cycle: vec![BLANK; states] };
+    let count = agree_on_paths::<W>(by, cells, tariffs, &mut room);
+    let mut stem = vec![BLANK; states];
+    let t = times(
+        trials,
+        rounds,
+        &mut [
+            &mut |rounds| _ = ours::find_path(by, TO_B, cells, states, grids::SLOTS, tariffs, rounds, &mut room),
+            &mut |rounds| _ = black_box(path_same::<W>(cells, tariffs, &mut stem, rounds)),
+            &mut |rounds| drop(black_box(path_lazy::<W>(cells, tariffs, rounds))),
+        ],
+    );
+    println!(
+        "| {name} | {} | {count} | {} | {} | **{}** | {} | **{}** |",
+        if by == By::Airtime { "airtime" } else { "peak" },
+        milliseconds(t[0]),
+        milliseconds(t[1]),
+        ratio(t[0], t[1]),
+        milliseconds(t[2]),
+        ratio(t[0], t[2]),
+    );
+}
+
+fn compare_paths(trials: usize, rounds: usize) {
+    println!();
+    println!("| grid | weight | steps | ours | same way in Rust | ratio | `BinaryHeap` in Rust | ratio |");
+    println!("|---|---|---|---|---|---|---|---|");
+    for ways in grids::ways() {
+        compare_path::<Airtime>(By::Airtime, ways.name, &ways.cells, &ways.airtime, trials, rounds);
+        compare_path::<Peak>(By::Peak, ways.name, &ways.cells, &ways.peak, trials, rounds);
+    }
+}
+
+/// `reading`, `marking` or `paths` alone; `quick` has each contender do its work a few times only, as under a tool that counts instructions.
+fn run() {
     let words: Vec<String> = std::env::args().skip(1).collect();
     let has = |word: &str| words.iter().any(|given| given == word);
+    let all = !["reading", "marking", "paths"].into_iter().any(has);
     let (trials, rounds) = if has("quick") { (1, 1) } else { (15, 3) };
-    if !has("marking") {
+    if all || has("reading") {
         agree_on_edges();
         compare_reading(trials, rounds);
     }
-    if !has("reading") {
+    if all || has("marking") {
         compare_marking(trials, rounds);
     }
+    if all || has("paths") {
+        compare_paths(trials, rounds);
+    }
+}
+
+/// The library keeps a work list of 3 MB on the stack, where it is called for paths.
+fn main() {
+    const STACK: usize = 64 << 20;
+    std::thread::Builder::new().stack_size(STACK).spawn(run).expect("a thread").join().expect("no panic");
 }

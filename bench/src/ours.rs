@@ -1,6 +1,7 @@
 //! The library, as its static library exports it. A slice crosses as a pointer and a length.
 
 use crate::cell::Cell;
+use crate::paths::Step;
 
 #[repr(C)]
 #[derive(Default, Debug, PartialEq, Eq)]
@@ -10,6 +11,15 @@ pub struct Outcome {
     pub transitions: usize,
     pub states: usize,
     pub names: usize,
+}
+
+/// 0 for a refusal, 1 for nothing, 2 for a path that ends, 3 for one with a cycle; and the counts.
+#[repr(C)]
+#[derive(Default, Debug, PartialEq, Eq)]
+pub struct PathOutcome {
+    pub kind: u8,
+    pub stem: usize,
+    pub cycle: usize,
 }
 
 unsafe extern "C" {
@@ -48,6 +58,42 @@ unsafe extern "C" {
         columns: *mut u64,
         columns_len: usize,
     ) -> usize;
+
+    fn neqoylla_path_airtime(
+        text: *const u8,
+        text_len: usize,
+        cells: *const Cell,
+        cells_len: usize,
+        states: usize,
+        slots: usize,
+        tariffs: *const [u16; 64],
+        rounds: usize,
+        columns: *mut u64,
+        columns_len: usize,
+        stem: *mut Step,
+        stem_len: usize,
+        cycle: *mut Step,
+        cycle_len: usize,
+        outcome: *mut PathOutcome,
+    );
+
+    fn neqoylla_path_peak(
+        text: *const u8,
+        text_len: usize,
+        cells: *const Cell,
+        cells_len: usize,
+        states: usize,
+        slots: usize,
+        tariffs: *const [u16; 64],
+        rounds: usize,
+        columns: *mut u64,
+        columns_len: usize,
+        stem: *mut Step,
+        stem_len: usize,
+        cycle: *mut Step,
+        cycle_len: usize,
+        outcome: *mut PathOutcome,
+    );
 }
 
 /// What a reading leaves behind: its answer, the names each with byte 10 after it, and the cells.
@@ -111,4 +157,47 @@ pub fn mark_columns(formula: &str, cells: &[Cell], states: usize, slots: usize, 
             columns.len(),
         )
     }
+}
+
+/// By airtime or by peak.
+#[derive(Clone, Copy, PartialEq, Eq)]
+pub enum By {
+    Airtime,
+    Peak,
+}
+
+/// The caller's lists.
+pub struct Room {
+    pub columns: Vec<u64>,
+    pub stem: Vec<Step>,
+    pub cycle: Vec<Step>,
+}
+
+/// Asks for a deciding path of a formula from state 0.
+pub fn find_path(by: By, formula: &str, cells: &[Cell], states: usize, slots: usize, tariffs: &[u16; 64], rounds: usize, room: &mut Room) -> PathOutcome {
+    let call = match by {
+        By::Airtime => neqoylla_path_airtime,
+        By::Peak => neqoylla_path_peak,
+    };
+    let mut outcome = PathOutcome::default();
+    unsafe {
+        call(
+            formula.as_ptr(),
+            formula.len(),
+            cells.as_ptr(),
+            cells.len(),
+            states,
+            slots,
+            tariffs,
+            rounds,
+            room.columns.as_mut_ptr(),
+            room.columns.len(),
+            room.stem.as_mut_ptr(),
+            room.stem.len(),
+            room.cycle.as_mut_ptr(),
+            room.cycle.len(),
+            &mut outcome,
+        )
+    };
+    outcome
 }

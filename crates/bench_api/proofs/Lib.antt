@@ -1,3 +1,4 @@
 pub mod Rounds
 pub mod Entry
 pub mod Lines
+pub mod Handing

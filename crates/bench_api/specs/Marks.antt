@@ -1,7 +1,10 @@
 -- What marking a formula answers, over cells and memory that a caller outside hands over.
-use Rattle.std.specs.Prelude.{◌≡◌, ◌≢◌, ℕ, zero, suc, ◌<◌, ◌≤◌, List, [], ◌∷◌, IsSome, None, codes}
+use Rattle.std.specs.Prelude.{◌≡◌, ◌≢◌, ℕ, zero, suc, ◌<◌, ◌≤◌, List, [], ◌∷◌, length}
+use Rattle.std.specs.Prelude.{IsSome, None, codes}
 use Rattle.formula.specs.Entering.{IsFormula, Unreadable, AllListed, Unlisted}
-use Rattle.formula.specs.Formulas.{size}
+use Rattle.formula.specs.declared.nodes.Nodes.{Nodes}
+use Rattle.formula.specs.Formulas.{by_names, size}
+use Rattle.formula.specs.Nodes.{shapes, roots, formula_of}
 use Rattle.formula.specs.Trees.{Tree}
 use Rattle.formula.specs.Vocabulary.{Vocabulary, by_labels}
 use Rattle.model.specs.declared.cell.Cell.{Cell}
@@ -28,6 +31,12 @@ pub record FormulaOf (text : List ℕ) (nodes : ℕ) : Type 0 where
   pub listed : AllListed vocabulary is.parses.tokens
   pub few : nodes ≤ 48
   pub nodes_are : nodes ≡ size tree
+
+-- A table with that formula alone.
+pub record TableOf (text : List ℕ) (nodes : Nodes) : Type 0 where
+  pub formula : FormulaOf text (length (shapes nodes))
+  pub alone : length (roots nodes) ≡ 1
+  pub means : formula_of nodes 0 ≡ by_names vocabulary formula.tree
 
 -- The memory covers so many states of the n that a grid over the cells is to have.
 module _ (text : List ℕ) (cells : List Cell) (n w covered : ℕ) where

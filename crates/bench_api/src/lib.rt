@@ -2,6 +2,7 @@
 // says what came out of the last time.
 #![tactic(auto)]
 
+pub mod asking;
 pub mod marks;
 pub mod reading;
 

@@ -3,7 +3,7 @@ ghost use Rattle.base.specs.Names.{is_name};
 ghost use Rattle.formula.specs.Nodes.{shapes, roots};
 ghost use Rattle.shelf.specs.Rows.{rows_cover};
 ghost use Rattle.shelf.specs.Columns.{columns_cover};
-ghost use Rattle.bench_api.specs.Marks.{letters, NotEntered, FormulaOf, MarkAnswer};
+ghost use Rattle.bench_api.specs.Marks.{letters, NotEntered, TableOf, MarkAnswer};
 
 use base::{Labels, Name, Refusal};
 use formula::{Nodes, enter};
@@ -26,10 +26,8 @@ fn actions() -> Result<Labels, Refusal>
 }
 
 // The nodes of a formula over these actions, in a table of its own.
-fn nodes_of(text: &[u8]) -> Result<Nodes, Refusal>
-    ensures { MatchResult result
-        (λ n. FormulaOf text.now (length (shapes n)) × (length (roots n) ≡ 1))
-        (λ e. NotEntered text.now) }
+pub(crate) fn nodes_of(text: &[u8]) -> Result<Nodes, Refusal>
+    ensures { MatchResult result (TableOf text.now) (λ e. NotEntered text.now) }
 {
     let labels = actions()?;
     let mut nodes = Nodes::new();

@@ -8,8 +8,8 @@ use Rattle.meaning.specs.Weights.{airtime, peak}
 use Rattle.meaning.proofs.Deadlocks.{deadlock_test}
 use Rattle.meaning.proofs.Rows.{is_system}
 use Rattle.formula.specs.Reading.{read, in_braces, tree_of}
-use Rattle.figures.specs.Claims.{IsRight, HasNodes, IsJoin}
-use Rattle.figures.specs.Table.{upload_labels, upload_rows, lone_labels, lone_rows, joins}
+use Rattle.figures.specs.Claims.{IsRight, HasNodes, IsJoin, IsJoined}
+use Rattle.figures.specs.Table.{upload_labels, upload_rows, lone_labels, lone_rows, joins, ends}
 use Rattle.figures.specs.Table.{WorkedFigures}
 use Rattle.figures.proofs.Rows.{all_of, right_by, nodes_by, weighs_by}
 
@@ -66,6 +66,11 @@ at_limits =
       ),
     )
 
+at_ends : All IsJoined ends
+at_ends =
+    all_of IsJoined ends
+    (refl, (refl, (refl, (refl, (refl, (refl, (refl, (refl, (refl, tt)))))))))
+
 nodes : HasNodes (codes "EX {a}") 2
 unfolding read in_braces tree_of
 nodes = nodes_by _ _ _ refl refl
@@ -80,4 +85,5 @@ worked_figures = record {
   nodes = nodes;
   by_airtime = weighs_by airtime _ _ refl;
   by_peak = weighs_by peak _ _ refl;
+  at_ends = at_ends;
 }

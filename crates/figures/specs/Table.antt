@@ -7,6 +7,7 @@ use Rattle.meaning.specs.Rows.{IsSystemWith}
 use Rattle.meaning.specs.Verdicts.{share}
 use Rattle.meaning.specs.Weights.{airtime, peak}
 use Rattle.figures.specs.Claims.{Row, row, AreRight, HasNodes, Join, join, IsJoin, Weighs}
+use Rattle.figures.specs.Claims.{Joined, joined, IsJoined}
 
 -- The upload model, a meter that measures and sends: its labels, each at the number of its action.
 abbrev pub upload_labels : List (List ℕ)
@@ -43,6 +44,20 @@ joins =
     ∷ join 256 257 1 1 65792 3 false
     ∷ []
 
+-- a weight, a tariff, and the weight with it, by airtime and by peak: at the ends of their numbers
+abbrev pub ends : List Joined
+ends =
+    joined airtime 0 0 0
+    ∷ joined airtime 4294901760 65535 4294967295
+    ∷ joined airtime 4294967290 5 4294967295
+    ∷ joined airtime 4294967290 65535 4294967295
+    ∷ joined airtime 4294967295 1 4294967295
+    ∷ joined peak 0 0 0
+    ∷ joined peak 7 3 7
+    ∷ joined peak 7 65535 65535
+    ∷ joined peak 65535 65535 65535
+    ∷ []
+
 pub record WorkedFigures : Type 0 where
   pub at_upload : IsSystemWith upload (λ M. AreRight M upload_labels upload_rows)
   pub at_lone : IsSystemWith lone (λ M. AreRight M lone_labels lone_rows)
@@ -52,3 +67,4 @@ pub record WorkedFigures : Type 0 where
   pub nodes : HasNodes (codes "EX {a}") 2
   pub by_airtime : Weighs airtime (2 ∷ 5 ∷ 1 ∷ []) 8
   pub by_peak : Weighs peak (2 ∷ 5 ∷ 1 ∷ []) 5
+  pub at_ends : All IsJoined ends

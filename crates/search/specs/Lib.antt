@@ -1,4 +1,5 @@
 pub mod Operators
+pub mod Scales
 pub mod Labels
 pub mod Quests
 pub mod Search

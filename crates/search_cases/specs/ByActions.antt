@@ -1,5 +1,5 @@
 -- An operator whose parts are sets of actions.
-use Rattle.std.specs.Prelude.{ℕ, Bool, true, false, get_or}
+use Rattle.std.specs.Prelude.{false, get_or}
 use Rattle.base.specs.Sets.{holds}
 use Rattle.meaning.specs.Formula.{Quantifier, E, A, Temporal, U, W}
 use Rattle.search.specs.Operators.{PathOperator}

@@ -1,2 +1,3 @@
 pub mod Lexicographic
+pub mod LexicographicLaws
 pub mod ByActions

@@ -10,7 +10,8 @@ pub(crate) enum Kind {
     AllUnless,
 }
 
-// An operator whose first and second steps are those by sets of actions, with the states where it has a deciding path.
+// An operator whose first and second steps are those by sets of actions, with the states where it
+// has a deciding path.
 #[derive(Drop)]
 pub(crate) struct ByActions<'a> {
     pub(crate) kind: Kind,

@@ -2,7 +2,8 @@ ghost use Rattle.std.specs.Prelude.{◌≤◌};
 
 use search::weight::Weight;
 
-// Airtime, and the number of steps where the airtimes are equal. What is past the greatest airtime is as heavy as can be.
+// Airtime, and the number of steps where the airtimes are equal. What is past the greatest airtime
+// is as heavy as can be.
 #[derive(Clone, Copy)]
 pub(crate) struct BySteps {
     pub(crate) ticks: u32,
@@ -12,9 +13,21 @@ pub(crate) struct BySteps {
 }
 
 impl Weight for BySteps {
-    ghost use Rattle.search_cases.specs.Lexicographic.{by_steps, laws};
+    ghost use Rattle.meaning.specs.Weights.{airtime};
+    ghost use Rattle.meaning.proofs.Peaks.{airtime_fits, zero_fits};
+    ghost use Rattle.search_cases.specs.Lexicographic.{lexicographic, steps_with};
+    ghost use Rattle.search_cases.specs.LexicographicLaws.{steps_fit, laws};
 
-    ghost scale = { by_steps };
+    ghost scale = { record {
+      at_most = λ v w. lexicographic v.ticks v.steps w.ticks w.steps;
+      join = λ w c. record {
+        ticks = airtime w.ticks c;
+        steps = steps_with w.ticks w.steps c;
+        within = airtime_fits w.ticks c;
+        few = steps_fit w.ticks w.steps c;
+      };
+      start = record { ticks = 0; steps = 0; within = zero_fits; few = zero_fits };
+    } };
 
     ghost laws = { laws };
 

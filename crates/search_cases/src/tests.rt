@@ -24,7 +24,8 @@ const BLANK: Step = Step {
     state: 99,
 };
 
-// Two ways from 0 to 3: by a heavy step and a light one, or by three middling ones. State 3 goes back to 0.
+// Two ways from 0 to 3: by a heavy step and a light one, or by three middling ones. State 3 goes
+// back to 0.
 //   0 --1--> 1 --2--> 3,  0 --3--> 2 --3--> 4 --3--> 3,  3 --4--> 0
 fn ways() -> [Cell; 10] {
     [
@@ -165,7 +166,8 @@ fn lightest_by_steps(rt: HostRuntime) -> Result<(), Fail> {
     Ok(())
 }
 
-// What is found of an operator at state 0 of the second, with its own two marks, and the first step of each list.
+// What is found of an operator at state 0 of the second, with its own two marks, and the first step
+// of each list.
 fn at_wait(
     kind: Kind,
     first: u8,
@@ -202,8 +204,8 @@ fn at_wait(
     Ok((found, stem[0], cycle[0]))
 }
 
-// A[{1} U {2}] fails by the cycle; E[{2} W {3}] holds by the end; E[{1} W {2}] holds by a decisive path, although it could last;
-// A[{1} W {2}] holds, and has none.
+// A[{1} U {2}] fails by the cycle; E[{2} W {3}] holds by the end; E[{1} W {2}] holds by a decisive
+// path, although it could last; A[{1} W {2}] holds, and has none.
 #[test]
 fn lasting(rt: HostRuntime) -> Result<(), Fail> {
     let (found, stem, cycle) = at_wait(Kind::AllUntil, 1, 2, &[true, true])?;
