@@ -106,6 +106,9 @@ pub record PathCall (W : Type 0) : Type 0 where
   pub formula : ℕ
   pub state : ℕ
 
+abbrev pub path_call : {W : Type 0} → Scale W → List ℕ → ℕ → ℕ → PathCall W
+path_call scale tariffs n s = record { scale = scale; tariffs = tariffs; formula = n; state = s }
+
 -- the same as a question of the table and the sheets
 abbrev pub asked : {W : Type 0} → PathCall W → Lts → Sheets → Study → Asked W
 asked q M sh st = record {
