@@ -4,10 +4,12 @@ use Rattle.std.proofs.lemmas.Bool.{cases_eq}
 use Rattle.std.proofs.lemmas.List.{length-append, length_push}
 use Rattle.base.specs.declared.refusal.Refusal.{Refusal}
 use Rattle.base.specs.declared.refusal.Refusal.TheVariants.{Short, Range, Grammar, Nameless, Full, Unheard}
-use Rattle.meaning.specs.DecidingPaths.{HandedOutOf}
-use Rattle.meaning.specs.Formula.{Formula, Holds}
+use Rattle.meaning.specs.DecidingPaths.{DecidingPath, ended, looping, LightestOne, HandedOut, HandedOutOf}
+use Rattle.meaning.specs.Formula.{Quantifier, Temporal, Formula, TRUE, FALSE, NOT, AND, OR, path, Holds, Part}
 use Rattle.meaning.specs.Laws.{RightMarks}
 use Rattle.meaning.specs.Lts.{Lts}
+use Rattle.meaning.specs.Paths.{Kind}
+use Rattle.meaning.specs.Scales.{Scale}
 use Rattle.meaning.specs.Sheets.{Sheets}
 use Rattle.meaning.specs.Verdicts as meant
 use Rattle.formula.specs.declared.nodes.Nodes.{Nodes}
@@ -20,7 +22,7 @@ use Rattle.search.specs.Finding.{Held, Room, TooShort, path_in}
 use Rattle.search.proofs.Formulas.{where_shown}
 use Rattle.paths.specs.Asking.{RightSheets, AnswerTo}
 use Rattle.study.specs.Laws.{Alike, EnterLaw, HasNoRoom, JudgeLaw, AskLaw, PathLaw, path_answer, room}
-use Rattle.study.specs.Runs.{Call, Run, OnlyFormulaOf, PathTells}
+use Rattle.study.specs.Runs.{Call, Run, OnlyFormulaOf, no_weight, PathTells}
 use Rattle.study.specs.Study.{PathCall, asked, said, states, nodes, formulas, Fits, Enters, Judges, Asks, FindsPath, IsJudged}
 use Rattle.study.specs.declared.study.Study.{Study}
 use Rattle.study.specs.declared.verdict.Verdict.{Verdict}
@@ -150,9 +152,32 @@ judges_on sheets M n st st' shelf shelf' (Err Short) e = (e.0, e.1, ap sheets e.
 judges_on sheets M n st st' shelf shelf' (Err Unheard) e = (e.0, e.1, e.2, ap sheets e.3)
 judges_on sheets M n st st' shelf shelf' (Err x) e = absurd e
 
+-- what is handed out by a weight is a deciding path by none
+module _ {W : Type 0} (scale : Scale W) (tariff : ℕ → ℕ) where
+  lightest_one : (M : Lts) (Pass Last : Kind) (s : ℕ) (p : DecidingPath) → LightestOne scale tariff M Pass Last s p → LightestOne no_weight (λ a. 0) M Pass Last s p
+  lightest_one M Pass Last s (ended v) l = (l.0, λ w d. refl)
+  lightest_one M Pass Last s (looping v w) l = l
+
+  weighed : (M : Lts) (q : Quantifier) (o : Temporal) (First Second : Kind) (s : ℕ) (p : Option DecidingPath) → HandedOut scale tariff M q o First Second s p
+      → HandedOut no_weight (λ a. 0) M q o First Second s p
+  weighed M q o First Second s None h = h
+  weighed M q o First Second s (Some p) h = (h.0, elim h.1 [ inl l ↦ inl (lightest_one M _ _ s p l) | inr l ↦ inr l ])
+
+  unweighed : (M : Lts) (f : Formula) (s : ℕ) (p : Option DecidingPath) → HandedOutOf scale tariff M f s p → HandedOutOf no_weight (λ a. 0) M f s p
+  unweighed M TRUE s p h = h
+  unweighed M FALSE s p h = h
+  unweighed M (NOT f) s p h = unweighed M f s p h
+  unweighed M (AND f g) s p h = h
+  unweighed M (OR f g) s p h = h
+  unweighed M (path q o c f d g) s p h = weighed M q o (Part c (Holds M f)) (Part d (Holds M g)) s p h
+
 pub path_tells : {W : Type 0} (q : PathCall W) (M : Lts) (cs : List Call) (st : Study) (sh : Sheets) (before after : Held W) (r : Result Found Refusal) → Run M cs st sh
-    → FindsPath q M sh st before after r → PathTells st q.formula q.state (path_answer after r)
-path_tells q M cs st sh before after (Ok r) run e = (e.1, omega (arith, e.2.1.0, e.0.0))
+    → FindsPath q M sh st before after r → PathTells M sh st q.formula q.state (path_answer after r)
+path_tells q M cs st sh before after (Ok r) run e = (
+  e.1,
+  omega (arith, e.2.1.0, e.0.0),
+  λ right. unweighed q.scale (λ a. slice_index_or q.tariffs a 0) M (formula_of (nodes st) q.formula) q.state (path_in after.stem after.cycle r) (e.2.2.path right),
+)
 path_tells q M cs st sh before after (Err Short) run (inl e) = let k = kept run in absurd (e.0 (sym k.states_are, k.covers ∙ sym k.states_are))
 path_tells q M cs st sh before after (Err Short) run (inr e) = (e.1, elim e.2.0 [ inl x ↦ absurd (x (e.0.1 ∙ sym e.0.0)) | inr x ↦ omega (arith, e.0.0, x.1.0) ])
 path_tells q M cs st sh before after (Err Unheard) run e = e.1

@@ -1,16 +1,19 @@
 -- Lists of calls on one study, with their answers.
-use Rattle.std.specs.Prelude.{◌≡◌, ℕ, suc, ◌+◌, ◌<◌, ◌≤◌, ◌⊎◌, Bool, List, [], ◌∷◌, Ok, Err, Option, Result}
+use Rattle.std.specs.Prelude.{◌≡◌, ℕ, suc, ◌+◌, ◌<◌, ◌≤◌, ◌⊎◌, Bool, true, List, [], ◌∷◌, Ok, Err, Option, Result}
 use Rattle.base.specs.declared.refusal.Refusal.{Refusal}
 use Rattle.base.specs.declared.refusal.Refusal.TheVariants.{Short, Range, Unheard}
-use Rattle.meaning.specs.DecidingPaths.{DecidingPath}
+use Rattle.meaning.specs.DecidingPaths.{DecidingPath, HandedOutOf}
 use Rattle.meaning.specs.Formula.{Formula}
 use Rattle.meaning.specs.Lts.{Lts}
+use Rattle.meaning.specs.Scales.{Scale}
 use Rattle.meaning.specs.Sheets.{Sheets}
 use Rattle.formula.specs.Formulas.{by_names, size}
 use Rattle.formula.specs.Grammar.{Parses}
+use Rattle.formula.specs.Nodes.{formula_of}
 use Rattle.formula.specs.Trees.{Tree}
 use Rattle.formula.specs.Vocabulary.{by_labels}
-use Rattle.study.specs.Study.{states, IsJudged, Opens, Enters, Judges, Asks}
+use Rattle.paths.specs.Asking.{RightSheets}
+use Rattle.study.specs.Study.{states, nodes, IsJudged, Opens, Enters, Judges, Asks}
 use Rattle.study.specs.declared.study.Study.{Study}
 use Rattle.study.specs.declared.verdict.Verdict.{Verdict}
 
@@ -23,13 +26,21 @@ pub data Call : Type 0 where
   ask : ℕ → ℕ → Result Bool Refusal → Call
   path : ℕ → ℕ → List ℕ → Result (Option DecidingPath) Refusal → Call
 
--- what the answer to a path tells of the study, whatever its weight, tariffs and lists were
-abbrev pub PathTells : Study → ℕ → ℕ → Result (Option DecidingPath) Refusal → Type 0
-PathTells st n s (Ok p) = IsJudged st n × (s < states st)
-PathTells st n s (Err Short) = IsJudged st n × (s < states st)
-PathTells st n s (Err Unheard) = ¬ IsJudged st n
-PathTells st n s (Err Range) = IsJudged st n × (states st ≤ s)
-PathTells st n s (Err e) = ⊥
+-- no path is lighter than another
+abbrev pub no_weight : Scale (Unit {0})
+no_weight = record { at_most = λ v w. true; join = λ v c. v; start = tt }
+
+-- What a path answers by the study and the sheets, whatever its weight, tariffs and lists were: if
+-- the sheets are right, a deciding path where there is one; 8, 3, or 1 for a list.
+abbrev pub PathTells : Lts → Sheets → Study → ℕ → ℕ → Result (Option DecidingPath) Refusal → Type 0
+PathTells M sh st n s (Ok p) =
+    IsJudged st n × (s < states st)
+    × (RightSheets M (nodes st) n sh
+    → HandedOutOf no_weight (λ a. 0) M (formula_of (nodes st) n) s p)
+PathTells M sh st n s (Err Short) = IsJudged st n × (s < states st)
+PathTells M sh st n s (Err Unheard) = ¬ IsJudged st n
+PathTells M sh st n s (Err Range) = IsJudged st n × (states st ≤ s)
+PathTells M sh st n s (Err e) = ⊥
 
 -- others may write the sheets from 56 on
 pub record Elsewhere (before after : Sheets) : Type 0 where
@@ -51,7 +62,7 @@ pub data Run (M : Lts) : List Call → Study → Sheets → Type 0 where
       Run M cs st sh → Asks M sh st n s r → Run M (ask n s r ∷ cs) st sh
   path_found : {cs : List Call} {st : Study} {sh : Sheets} {n s : ℕ} {tariffs : List ℕ}
       {r : Result (Option DecidingPath) Refusal} →
-      Run M cs st sh → PathTells st n s r → Run M (path n s tariffs r ∷ cs) st sh
+      Run M cs st sh → PathTells M sh st n s r → Run M (path n s tariffs r ∷ cs) st sh
   elsewhere : {cs : List Call} {st : Study} {sh sh' : Sheets} →
       Run M cs st sh → Elsewhere sh sh' → Run M cs st sh'
 
