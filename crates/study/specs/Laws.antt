@@ -68,8 +68,11 @@ AskLaw M states cs n s (Err Range) = (states ≡ M.states) × JudgedIn cs n × (
 AskLaw M states cs n s (Err e) = ⊥
 
 -- how many entries the shortest of the lists has
+abbrev pub shortest : ℕ → ℕ → ℕ → ℕ
+shortest work stem cycle = min work (min stem cycle)
+
 abbrev pub room : {W : Type 0} → Held W → ℕ
-room h = min (length h.work) (min (length h.stem) (length h.cycle))
+room h = shortest (length h.work) (length h.stem) (length h.cycle)
 
 -- the answer of a path call, as the path that stands in the lists
 abbrev pub path_answer : {W : Type 0} → Held W → Result Found Refusal

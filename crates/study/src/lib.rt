@@ -1,10 +1,16 @@
 // A study: formulas entered, judged over a model into a shelf, asked of, and decided by paths.
 #![tactic(auto)]
 
+pub mod session;
+pub mod carry_out_error;
+pub mod order;
 pub mod record;
 pub mod study;
 pub mod verdict;
 
+pub use session::carry_out;
+pub use carry_out_error::CarryOutError;
+pub use order::{Answer, DecidingPath, Order};
 pub use record::Record;
 pub use study::Study;
 pub use verdict::Verdict;
