@@ -1,6 +1,5 @@
 -- What each call answers after a run.
-use Rattle.std.proofs.Common.{◌≡◌, ◌↔◌, ℕ, ◌+◌, ◌<◌, ◌≤◌, ◌⊎◌, Bool, List, ◌∷◌, ◌++◌, length, min, slice_index_or, Some, None, Ok, Err, IsTrue, Option, Result, sym, refl, ap, ◌∙◌, subst, inl, inr, arith}
-use Rattle.std.proofs.lemmas.Bool.{cases_eq}
+use Rattle.std.proofs.Common.{◌≡◌, ◌↔◌, ℕ, ◌+◌, ◌<◌, Bool, List, length, slice_index_or, Some, None, Ok, Err, IsTrue, Option, Result, sym, refl, ap, ◌∙◌, subst, inl, inr, arith}
 use Rattle.std.proofs.lemmas.List.{length-append, length_push}
 use Rattle.base.specs.declared.refusal.Refusal.{Refusal}
 use Rattle.base.specs.declared.refusal.Refusal.TheVariants.{Short, Range, Grammar, Nameless, Full, Unheard}
@@ -18,12 +17,12 @@ use Rattle.formula.specs.Nodes.{shapes, roots, root, formula_of, OfFormula}
 use Rattle.formula.specs.Trees.{Tree}
 use Rattle.formula.proofs.Entries.{few_shapes, few_roots}
 use Rattle.search.specs.declared.found.Found.{Found}
-use Rattle.search.specs.Finding.{Held, Room, TooShort, path_in}
+use Rattle.search.specs.Finding.{Held, TooShort, path_in}
 use Rattle.search.proofs.Formulas.{where_shown}
-use Rattle.paths.specs.Asking.{RightSheets, AnswerTo}
+use Rattle.paths.specs.Asking.{RightSheets}
 use Rattle.study.specs.Laws.{Alike, EnterLaw, HasNoRoom, JudgeLaw, AskLaw, PathLaw, path_answer, room}
 use Rattle.study.specs.Runs.{Call, Run, OnlyFormulaOf, no_weight, PathTells}
-use Rattle.study.specs.Study.{PathCall, asked, said, states, nodes, formulas, Fits, Enters, Judges, Asks, FindsPath, IsJudged}
+use Rattle.study.specs.Study.{PathCall, said, nodes, formulas, Enters, Judges, Asks, FindsPath}
 use Rattle.study.specs.declared.study.Study.{Study}
 use Rattle.study.specs.declared.verdict.Verdict.{Verdict}
 use Rattle.study.proofs.Runs.{Kept, kept}
@@ -73,7 +72,7 @@ judge_law sheets N M alike cs st st' shelf shelf' n (Ok v) run e =
     let l = e.marked.entered in (
       same,
       subst (λ (L : Lts). (f : Formula) × OnlyFormulaOf cs n f × ((X : ℕ → Bool) × RightMarks L f X × (said v ≡ meant.verdict L X))) (alike same)
-      (formula_of (nodes st) n, the_formula M st (sheets shelf) cs n k l, ((sheets shelf').on (root (nodes st) n), e.marked.right (root (nodes st) n) (root_of_formula (nodes st) n l), e.verdict_is)),
+          (formula_of (nodes st) n, the_formula M st (sheets shelf) cs n k l, ((sheets shelf').on (root (nodes st) n), e.marked.right (root (nodes st) n) (root_of_formula (nodes st) n l), e.verdict_is)),
     )
 judge_law sheets N M alike cs st st' shelf shelf' n (Err Short) run e =
     let k = kept run in λ same. e.0 (same ∙ sym k.states_are, k.covers ∙ sym k.states_are)
@@ -93,7 +92,7 @@ ask_law N M cs st sh n s (Ok b) run e =
         formula_of (nodes st) n,
         the_formula M st sh cs n k l,
         subst (λ (x : Bool). IsTrue x ↔ Holds M (formula_of (nodes st) n) s) (sym e.3)
-        (k.marks n e.1 (root (nodes st) n) (root_of_formula (nodes st) n l) s inside),
+            (k.marks n e.1 (root (nodes st) n) (root_of_formula (nodes st) n l) s inside),
       ),
     )
 ask_law N M cs st sh n s (Err Short) run e = let k = kept run in λ same. e (same ∙ sym k.states_are, k.covers ∙ sym k.states_are)
@@ -127,7 +126,7 @@ module _ {W : Type 0} (q : PathCall W) (N M : Lts) (alike : Alike N M) (cs : Lis
           the_formula M st sh cs n k e.1.0,
           (
             subst (λ (L : Lts). HandedOutOf q.scale (λ a. slice_index_or q.tariffs a 0) L (formula_of (nodes st) n) q.state (path_in after.stem after.cycle r)) (alike same)
-            (e.2.2.path (right_by (alike same) (k.marks n e.1))),
+                (e.2.2.path (right_by (alike same) (k.marks n e.1))),
             where_shown M (formula_of (nodes st) n) q.state inside,
           ),
         ),

@@ -1,5 +1,5 @@
 -- What the calls do, as their links say it.
-use Rattle.std.proofs.Common.{◌≡◌, ℕ, ◌+◌, ◌*◌, ◌/◌, ◌<◌, ◌≤◌, Bool, true, List, length, slice_set, sym, refl, ap, ◌∙◌, subst, arith}
+use Rattle.std.proofs.Common.{◌≡◌, ℕ, ◌*◌, ◌/◌, ◌<◌, Bool, true, length, slice_set, sym, ap, ◌∙◌, subst, arith}
 use Rattle.meaning.specs.Lts.{Lts, count_below}
 use Rattle.meaning.specs.Sheets.{Sheets}
 use Rattle.meaning.specs.Verdicts as meant

@@ -1,8 +1,7 @@
 -- What every run keeps: the study and the sheets say what the calls say.
-use Rattle.std.proofs.Common.{◌≡◌, ◌↔◌, ℕ, zero, suc, ◌+◌, ◌-◌, ◌<◌, ◌≤◌, ◌⊎◌, Bool, true, false, List, [], ◌∷◌, ◌++◌, length, slice_index_or, slice_set, Some, None, Ok, Err, IsTrue, Option, Result, sym, refl, ap, ◌∙◌, subst, inl, inr, arith}
+use Rattle.std.proofs.Common.{◌≡◌, ◌↔◌, ℕ, zero, suc, ◌+◌, ◌<◌, ◌≤◌, ◌⊎◌, Bool, true, false, List, [], ◌∷◌, length, slice_index_or, slice_set, Ok, Err, IsTrue, sym, ap, ◌∙◌, subst, inl, inr, arith}
 use Rattle.std.proofs.lemmas.Bool.{both_ways, cases_lt, cases_eq, cases_order}
 use Rattle.std.proofs.lemmas.List.{length-set, length-append, length_push, get_or-set_same, get_or-set_other}
-use Rattle.base.specs.declared.refusal.Refusal.{Refusal}
 use Rattle.base.specs.declared.refusal.Refusal.TheVariants.{Short, Unheard}
 use Rattle.meaning.specs.Formula.{Formula, Holds}
 use Rattle.meaning.specs.Laws.{RightMarks}
@@ -10,7 +9,7 @@ use Rattle.meaning.specs.Lts.{Lts}
 use Rattle.meaning.specs.Sheets.{Sheets}
 use Rattle.formula.specs.declared.nodes.Nodes.{Nodes}
 use Rattle.formula.specs.Entering.{Added, OneMore}
-use Rattle.formula.specs.Formulas.{by_names, size}
+use Rattle.formula.specs.Formulas.{by_names}
 use Rattle.formula.specs.Nodes.{shapes, roots, first, root, OfFormula, formula_of}
 use Rattle.formula.specs.Shapes.{formula_at}
 use Rattle.formula.specs.Tables.{root_of, first_of, Ascending}
@@ -20,8 +19,8 @@ use Rattle.formula.proofs.Entries.{few_roots, root_within}
 use Rattle.formula.proofs.Readings.{one_reading}
 use Rattle.formula.proofs.Standing.{root_kept, first_kept}
 use Rattle.paths.specs.Asking.{RightSheets}
-use Rattle.study.specs.Study.{states, nodes, records, marked_as, NowJudged}
-use Rattle.study.specs.Runs.{Call, enter, judge, ask, path, Run, opened, entered, judged, asked, path_found, elsewhere, Elsewhere, Reads, FormulaOf, JudgedIn, entered_in, NodesIn}
+use Rattle.study.specs.Study.{states, nodes, records, marked_as}
+use Rattle.study.specs.Runs.{Call, enter, judge, Run, opened, entered, judged, asked, path_found, elsewhere, Elsewhere, FormulaOf, JudgedIn, entered_in, NodesIn}
 use Rattle.study.specs.declared.record.Record.{Record}
 use Rattle.study.specs.declared.study.Study.{Study}
 use Rattle.study.specs.declared.verdict.Verdict.{Verdict}

@@ -6,7 +6,6 @@ use Rattle.meaning.specs.DecidingPaths.{DecidingPath, HandedOutOf, HasDecidingOf
 use Rattle.meaning.specs.Formula.{Formula, Holds}
 use Rattle.meaning.specs.Laws.{RightMarks}
 use Rattle.meaning.specs.Lts.{Lts}
-use Rattle.meaning.specs.Scales.{Scale}
 use Rattle.meaning.specs.Verdicts as meant
 use Rattle.formula.specs.Entering.{IsFormula, Unreadable, AllListed, Unlisted}
 use Rattle.formula.specs.Formulas.{size}

@@ -1,5 +1,5 @@
 -- What a study holds, and what each of its calls promises.
-use Rattle.std.specs.Prelude.{◌≡◌, ℕ, ◌<◌, ◌≤◌, ◌⊎◌, Bool, true, false, List, length, None, Some, Ok, Err, Result, IsTrue, slice_set, slice_index_or}
+use Rattle.std.specs.Prelude.{◌≡◌, ℕ, ◌<◌, ◌≤◌, ◌⊎◌, Bool, true, false, List, length, Ok, Err, Result, IsTrue, slice_set, slice_index_or}
 use Rattle.base.specs.declared.refusal.Refusal.{Refusal}
 use Rattle.base.specs.declared.refusal.Refusal.TheVariants.{Short, Range, Unheard}
 use Rattle.meaning.specs.Lts.{Lts}
@@ -7,6 +7,7 @@ use Rattle.meaning.specs.Scales.{Scale}
 use Rattle.meaning.specs.Sheets.{Sheets}
 use Rattle.meaning.specs.Verdicts as meant
 use Rattle.formula.specs.declared.nodes.Nodes.{Nodes}
+use Rattle.formula.specs.declared.nodes.Span.{Span}
 use Rattle.formula.specs.Entering.{Added, Refused}
 use Rattle.formula.specs.Nodes.{shapes, roots, root}
 use Rattle.formula.specs.Vocabulary.{by_labels}
@@ -62,6 +63,18 @@ Enters text labels before after (Ok n) =
     × (states after ≡ states before)
 Enters text labels before after (Err e) =
     Refused text (by_labels labels) (nodes before) e × (after ≡ before)
+
+-- The nodes of formula n are marked, or it is refused with 1, then 8, and the shelf as before.
+abbrev pub MarksFormula : {S : Type 0} → (S → Sheets) → Lts → ℕ → Study → S → S
+    → Result Span Refusal → Type 0
+MarksFormula sheets M n st shelf shelf' (Ok s) =
+    Fits M (sheets shelf) st × AllMarked M (nodes st) n (sheets shelf) (sheets shelf')
+    × (s.root ≡ root (nodes st) n)
+MarksFormula sheets M n st shelf shelf' (Err Short) =
+    (¬ Fits M (sheets shelf) st) × (shelf' ≡ shelf)
+MarksFormula sheets M n st shelf shelf' (Err Unheard) =
+    Fits M (sheets shelf) st × (formulas st ≤ n) × (shelf' ≡ shelf)
+MarksFormula sheets M n st shelf shelf' (Err e) = ⊥
 
 -- a verdict, as the meaning has it
 abbrev pub said : Verdict → meant.Verdict

@@ -1,4 +1,4 @@
-use Rattle.std.proofs.Common.{◌≤◌, refl, ap, ◌∙◌, arith}
+use Rattle.std.proofs.Common.{◌≤◌, ap, ◌∙◌, arith}
 use Rattle.meaning.specs.Lts.{count_below}
 use Rattle.meaning.proofs.Deadlocks.{count_fits}
 use Rattle.study.proofs.Links.{verdict_read}

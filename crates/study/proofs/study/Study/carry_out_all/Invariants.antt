@@ -1,4 +1,4 @@
-use Rattle.std.proofs.Common.{◌≡◌, ◌≤◌, length, take}
+use Rattle.std.proofs.Common.{length, take}
 use Rattle.study.specs.Laws.{shortest}
 use Rattle.study.specs.Orders.{GoesOn, Spared}
 use Rattle.study.proofs.study.Study.carry_out_all.Given as goal
