@@ -26,7 +26,8 @@ impl Study {
     ghost use Rattle.search.specs.Finding.{held};
     ghost use Rattle.study.specs.Study.{Fits, Opens, Enters, Judges, Asks, FindsPath, path_call};
     ghost use Rattle.study.specs.Runs.{Call, Run, enter, judge, ask, path};
-    ghost use Rattle.study.specs.Laws.{Alike, EnterLaw, JudgeLaw, AskLaw, PathLaw, path_answer, room};
+    ghost use Rattle.study.specs.Laws.{Alike, EnterLaw, JudgeLaw, AskLaw, PathLaw};
+    ghost use Rattle.study.specs.Laws.{path_answer, room};
 
     /// Opens a study over a model and a shelf, whatever marks it has. It is refused with 1 if the
     /// shelf covers another number of states than the model has.
@@ -101,7 +102,8 @@ impl Study {
         number: usize,
         state: usize,
     ) -> Result<bool, Refusal>
-        ensures link { Asks (M.meaning model.now) (S.sheets shelf.now) self.now number state result }
+        ensures link { Asks (M.meaning model.now) (S.sheets shelf.now) self.now number state
+            result }
         ensures law { (M₀ : Lts) (calls : List Call) → Run M₀ calls self.now (S.sheets shelf.now)
             → AskLaw M₀ (M.meaning model.now).states calls number state result }
         ensures run { (calls : List Call)
