@@ -41,44 +41,41 @@ fn actions_are(steps: &[Step], actions: &[u8]) -> bool {
         .eq(actions.iter().copied())
 }
 
-// An order to enter a text.
-fn enter<'a>(text: &'a [u8], labels: &'a Labels) -> Order<'a> {
-    Order::Enter { text, labels }
-}
-
-// An order for a path from the start.
-fn path(formula: usize, tariffs: &[u16; 64]) -> Order<'_> {
-    Order::Path {
-        formula,
-        state: 0,
-        tariffs,
-    }
-}
-
 // The worked list of calls.
-#[test]
-fn worked(rt: HostRuntime) -> Result<(), Fail> {
-    let labels = labels(&["meas", "send", "add", "ack", "lost"])?;
-    let tariffs = [1; 64];
-    let cells = upload();
-    let size = Size {
-        states: STATES,
-        slots: 2,
-    };
-    let model = Grid::new(&cells, size, 0)?;
-    let orders = [
-        enter(b"NOT EF {add} E[{NOT meas} U {add}]", &labels),
+fn worked_list<'a>(labels: &'a Labels, tariffs: &'a [u16; 64]) -> [Order<'a>; 15] {
+    [
+        Order::Enter {
+            text: b"NOT EF {add} E[{NOT meas} U {add}]",
+            labels: labels,
+        },
         Order::Ask {
             formula: 0,
             state: 0,
         },
         Order::Judge { formula: 0 },
-        path(0, &tariffs),
-        enter(b"AX {meal}", &labels),
-        enter(b"AF {ack}", &labels),
+        Order::Path {
+            formula: 0,
+            state: 0,
+            tariffs: tariffs,
+        },
+        Order::Enter {
+            text: b"AX {meal}",
+            labels: labels,
+        },
+        Order::Enter {
+            text: b"AF {ack}",
+            labels: labels,
+        },
         Order::Judge { formula: 1 },
-        path(1, &tariffs),
-        enter(b"AX {meas}", &labels),
+        Order::Path {
+            formula: 1,
+            state: 0,
+            tariffs: tariffs,
+        },
+        Order::Enter {
+            text: b"AX {meas}",
+            labels: labels,
+        },
         Order::Judge { formula: 2 },
         Order::Ask {
             formula: 2,
@@ -92,9 +89,27 @@ fn worked(rt: HostRuntime) -> Result<(), Fail> {
             formula: 0,
             state: 3,
         },
-        path(2, &tariffs),
+        Order::Path {
+            formula: 2,
+            state: 0,
+            tariffs: tariffs,
+        },
         Order::Judge { formula: 3 },
-    ];
+    ]
+}
+
+// What it is answered.
+#[test]
+fn worked(rt: HostRuntime) -> Result<(), Fail> {
+    let labels = labels(&["meas", "send", "add", "ack", "lost"])?;
+    let tariffs = [1; 64];
+    let cells = upload();
+    let size = Size {
+        states: STATES,
+        slots: 2,
+    };
+    let model = Grid::new(&cells, size, 0)?;
+    let orders = worked_list(&labels, &tariffs);
     let mut work = [Entry::<Airtime>::blank(); STATES];
     let mut stem = [BLANK; STATES];
     let mut cycle = [BLANK; STATES];
