@@ -26,11 +26,11 @@ pub(crate) fn read_verdict<M: TransitionSystem, S: Shelf>(
     ensures { said result ≡ verdict (M.meaning model.now) ((S.sheets shelf.now).on sheet) }
 {
     let total = model.states();
-    let count = count(shelf, sheet);
+    let marked = count(shelf, sheet);
     Verdict {
         holds: shelf.look(sheet, model.start()),
-        count,
+        count: marked,
         total,
-        share: 1000 * count / total,
+        share: 1000 * marked / total,
     }
 }
