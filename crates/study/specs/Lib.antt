@@ -1,0 +1,4 @@
+pub mod Study
+pub mod Runs
+pub mod Laws
+pub mod Orders
