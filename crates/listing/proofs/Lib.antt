@@ -1,0 +1,5 @@
+mod Cuts
+mod Pushing
+mod Sames
+mod Paths
+mod Ones

@@ -1,0 +1,6 @@
+pub mod Lines
+pub mod Models
+pub mod Texts
+pub mod Airtimes
+pub mod Listing
+pub mod Laws

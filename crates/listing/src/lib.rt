@@ -1,0 +1,6 @@
+// The listing: what the program prints for an input, in one call.
+#![tactic(auto)]
+
+pub mod law;
+mod lines;
+mod texts;

@@ -1,0 +1,86 @@
+ghost use Rattle.std.specs.Prelude.{◌≡◌, ◌++◌, codes, decimal, OnOk};
+ghost use Rattle.search.specs.Quests.{steps_of};
+ghost use Rattle.aut.specs.Writing.{name_at};
+ghost use Rattle.search.specs.Finding.{path_in, Counted};
+ghost use Rattle.listing.specs.Texts.{refused_text, word_of, steps_text, path_text};
+
+use base::{Labels, Refusal};
+use itoa::Buffer;
+use search::{Found, Step};
+use std::alloc::AllocError;
+
+// Writes a number.
+fn push_number(out: &mut Vec<u8>, number: usize) -> Result<(), AllocError>
+    ensures { OnOk result (out.new.items ≡ out.old.items ++ decimal number) }
+{
+    let mut buffer = Buffer::new();
+    out.extend_from_slice(buffer.format(number).as_bytes())
+}
+
+// Writes the line of a refusal.
+pub(crate) fn push_refusal(out: &mut Vec<u8>, why: Refusal) -> Result<(), AllocError>
+    ensures { OnOk result (out.new.items ≡ out.old.items ++ refused_text why) }
+{
+    out.extend_from_slice(b"refused ")?;
+    push_number(out, usize::from(why.number()))?;
+    out.extend_from_slice(b"\n")
+}
+
+// The verdict in a word.
+fn word(holds: bool) -> &'static [u8]
+    ensures { result.now ≡ word_of holds }
+{
+    if holds { b"YES" } else { b"NO" }
+}
+
+// Writes the label of a step.
+fn push_step(out: &mut Vec<u8>, labels: &Labels, step: &Step) -> Result<(), AllocError>
+    ensures { OnOk result
+        (out.new.items ≡ out.old.items ++ (codes " " ++ name_at labels.now step.now.action)) }
+{
+    out.extend_from_slice(b" ")?;
+    out.extend_from_slice(labels.name_of(step.action).unwrap_or(b""))
+}
+
+// Writes the labels of steps.
+fn push_steps(out: &mut Vec<u8>, labels: &Labels, steps: &[Step]) -> Result<(), AllocError>
+    ensures { OnOk result
+        (out.new.items ≡ out.old.items ++ steps_text labels.now (steps_of steps.now)) }
+{
+    for step in steps {
+        push_step(out, labels, step)?;
+    }
+    Ok(())
+}
+
+// Writes the line of what was found: no path, no line.
+pub(crate) fn push_path(
+    out: &mut Vec<u8>,
+    labels: &Labels,
+    found: Found,
+    stem: &[Step],
+    cycle: &[Step],
+) -> Result<(), AllocError>
+    requires { Counted stem.now cycle.now found }
+    ensures { OnOk result (out.new.items
+        ≡ out.old.items ++ path_text labels.now (path_in stem.now cycle.now found)) }
+{
+    match found {
+        Found::None => Ok(()),
+        Found::Ended { stem: count } => {
+            out.extend_from_slice(b"path")?;
+            push_steps(out, labels, &stem[..count])?;
+            out.extend_from_slice(b"\n")
+        }
+        Found::Looping {
+            stem: count,
+            cycle: around,
+        } => {
+            out.extend_from_slice(b"path")?;
+            push_steps(out, labels, &stem[..count])?;
+            out.extend_from_slice(b" |")?;
+            push_steps(out, labels, &cycle[..around])?;
+            out.extend_from_slice(b"\n")
+        }
+    }
+}
