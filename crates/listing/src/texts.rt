@@ -2,12 +2,14 @@ ghost use Rattle.std.specs.Prelude.{◌≡◌, ◌++◌, codes, decimal, OnOk};
 ghost use Rattle.search.specs.Quests.{steps_of};
 ghost use Rattle.aut.specs.Writing.{name_at};
 ghost use Rattle.search.specs.Finding.{path_in, Counted};
-ghost use Rattle.listing.specs.Texts.{refused_text, word_of, steps_text, path_text};
+ghost use Rattle.study.specs.Study.{said};
+ghost use Rattle.listing.specs.Texts.{refused_text, word_of, verdict_text, steps_text, path_text};
 
 use base::{Labels, Refusal};
 use itoa::Buffer;
 use search::{Found, Step};
 use std::alloc::AllocError;
+use study::Verdict;
 
 // Writes a number.
 fn push_number(out: &mut Vec<u8>, number: usize) -> Result<(), AllocError>
@@ -31,6 +33,24 @@ fn word(holds: bool) -> &'static [u8]
     ensures { result.now ≡ word_of holds }
 {
     if holds { b"YES" } else { b"NO" }
+}
+
+// Writes the line of a verdict.
+pub(crate) fn push_verdict(
+    out: &mut Vec<u8>,
+    number: usize,
+    verdict: Verdict,
+) -> Result<(), AllocError>
+    ensures { OnOk result (out.new.items ≡ out.old.items ++ verdict_text number (said verdict)) }
+{
+    push_number(out, number)?;
+    out.extend_from_slice(b" ")?;
+    out.extend_from_slice(word(verdict.holds))?;
+    for figure in [verdict.count, verdict.total, verdict.share] {
+        out.extend_from_slice(b" ")?;
+        push_number(out, figure)?;
+    }
+    out.extend_from_slice(b"\n")
 }
 
 // Writes the label of a step.
