@@ -1,0 +1,147 @@
+ghost use Rattle.std.specs.Prelude.{◌≡◌, length};
+
+use crate::record::Record;
+use crate::verdict::{Verdict, read_verdict};
+use base::{Labels, Refusal};
+use formula::{MOST_FORMULAS, Nodes, Span};
+use model::TransitionSystem;
+use paths::PathQuestion;
+use search::{Found, Lists, Weight};
+use shelf::Shelf;
+
+/// The formulas that were entered, a record for each, and the number of states that they are judged
+/// over. It holds at most 8 formulas and 48 nodes in all; the marks of its formulas stand on sheets
+/// 0 to 47 of the shelf that it is handed, and it writes no other sheets.
+#[derive(Drop)]
+pub struct Study {
+    pub(crate) states: usize,
+    pub(crate) nodes: Nodes,
+    pub(crate) records: [Record; MOST_FORMULAS],
+    ghost rows: { length records ≡ 8 },
+}
+
+impl Study {
+    ghost use Rattle.std.specs.Prelude.{◌↔◌, List, ◌∷◌, IsTrue, IsSome, IfSome};
+    ghost use Rattle.formula.specs.Nodes.{root};
+    ghost use Rattle.meaning.specs.Lts.{Lts};
+    ghost use Rattle.meaning.specs.Sheets.{Sheets};
+    ghost use Rattle.search.specs.Finding.{held};
+    ghost use Rattle.study.specs.Study.{nodes, IsJudged, Fits, Opens, Enters, Judges, Asks, FindsPath, path_call};
+    ghost use Rattle.study.specs.Runs.{Call, Run, enter, judge, ask, path};
+    ghost use Rattle.study.specs.Laws.{Alike, EnterLaw, JudgeLaw, AskLaw, PathLaw, path_answer, room};
+
+    /// Opens a study over a model and a shelf, whatever marks it has. It is refused with 1 if the
+    /// shelf covers another number of states than the model has.
+    pub fn open<M: TransitionSystem, S: Shelf>(model: &M, shelf: &S) -> Result<Study, Refusal>
+        ensures { Opens (M.meaning model.now) (S.sheets shelf.now) result }
+    {
+        let states = model.states();
+        if shelf.covers() != states {
+            return Err(Refusal::Short);
+        }
+        Ok(Study {
+            states,
+            nodes: Nodes::new(),
+            records: [Record { judged: false }; MOST_FORMULAS],
+        })
+    }
+
+    // Whether a model and a shelf have as many states as those that the study was opened over.
+    fn fits<M: TransitionSystem, S: Shelf>(&self, model: &M, shelf: &S) -> bool
+        ensures { IsTrue result ↔ Fits (M.meaning model.now) (S.sheets shelf.now) self.now }
+    {
+        model.states() == self.states && shelf.covers() == self.states
+    }
+
+    // Writes a formula past the others.
+    fn add(&mut self, text: &[u8], labels: &Labels) -> Result<usize, Refusal>
+        ensures { Enters text.now labels.now self.old self.new result }
+    {
+        let number = formula::enter(&mut self.nodes, text, labels)?;
+        self.records[number] = Record { judged: false };
+        Ok(number)
+    }
+
+    // Where the nodes of a formula stand, if there is one of that number that is judged.
+    fn judged(&self, number: usize) -> Option<Span>
+        ensures judged { IsSome result ↔ IsJudged self.now number }
+        ensures span { IfSome result (λ s. s.root ≡ root (nodes self.now) number) }
+    {
+        let span = self.nodes.span(number)?;
+        if !self.records[number].judged {
+            return None;
+        }
+        Some(span)
+    }
+
+    // Marks the nodes of a formula, and says what the marks of its root say.
+    fn mark<M: TransitionSystem, S: Shelf>(
+        &mut self,
+        model: &M,
+        shelf: &mut S,
+        number: usize,
+    ) -> Result<Verdict, Refusal>
+        ensures { Judges S.sheets (M.meaning model.now) number self.old self.new shelf.old shelf.new
+            result }
+    {
+        if !self.fits(model, shelf) {
+            return Err(Refusal::Short);
+        }
+        let Some(span) = self.nodes.span(number) else {
+            return Err(Refusal::Unheard);
+        };
+        marking::mark(model, shelf, &self.nodes, number)?;
+        self.records[number].judged = true;
+        Ok(read_verdict(model, shelf, span.root))
+    }
+
+    // What the record and the sheets show of a formula at a state.
+    fn look<M: TransitionSystem, S: Shelf>(
+        &self,
+        model: &M,
+        shelf: &S,
+        number: usize,
+        state: usize,
+    ) -> Result<bool, Refusal>
+        ensures { Asks (M.meaning model.now) (S.sheets shelf.now) self.now number state result }
+    {
+        if !self.fits(model, shelf) {
+            return Err(Refusal::Short);
+        }
+        let span = self.judged(number).ok_or(Refusal::Unheard)?;
+        if state >= self.states {
+            return Err(Refusal::Range);
+        }
+        Ok(shelf.look(span.root, state))
+    }
+
+    // Finds a deciding path of a formula, by the record and the sheets.
+    fn find<M: TransitionSystem, S: Shelf, W: Weight>(
+        &self,
+        model: &M,
+        shelf: &S,
+        number: usize,
+        state: usize,
+        tariffs: &[u16; 64],
+        lists: &mut Lists<'_, W>,
+    ) -> Result<Found, Refusal>
+        ensures { FindsPath (path_call W.scale tariffs.now number state) (M.meaning model.now)
+            (S.sheets shelf.now) self.now (held lists.old) (held lists.new) result }
+    {
+        if !self.fits(model, shelf) {
+            return Err(Refusal::Short);
+        }
+        if self.judged(number).is_none() {
+            return Err(Refusal::Unheard);
+        }
+        let question = PathQuestion {
+            model,
+            shelf,
+            nodes: &self.nodes,
+            formula: number,
+            start: state,
+            tariffs,
+        };
+        question.find(lists)
+    }
+}
