@@ -4,3 +4,4 @@ pub mod Texts
 pub mod Airtimes
 pub mod Listing
 pub mod Laws
+pub mod Printing

@@ -13,13 +13,15 @@ refused_text e = codes "refused " ++ (decimal (number_of e) ++ codes "\n")
 abbrev pub word_of : Bool → List ℕ
 word_of b = if b then codes "YES" else codes "NO"
 
--- the formula's number, the verdict at the start, the count, the total, and the share
+-- the count, the total and the share
+abbrev pub figures_text : Verdict → List ℕ
+figures_text v =
+    codes " " ++ (decimal v.count
+    ++ (codes " " ++ (decimal v.total ++ (codes " " ++ (decimal v.share ++ codes "\n")))))
+
+-- the formula's number, the verdict at the start, and these
 abbrev pub verdict_text : ℕ → Verdict → List ℕ
-verdict_text n v =
-    decimal n ++ (codes " " ++ (word_of v.holds
-    ++ (codes " " ++ (decimal v.count
-    ++ (codes " " ++ (decimal v.total
-    ++ (codes " " ++ (decimal v.share ++ codes "\n"))))))))
+verdict_text n v = decimal n ++ (codes " " ++ (word_of v.holds ++ figures_text v))
 
 -- the labels of steps, one space before each
 abbrev pub steps_text : List (List ℕ) → List Step → List ℕ

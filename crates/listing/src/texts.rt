@@ -3,7 +3,7 @@ ghost use Rattle.search.specs.Quests.{steps_of};
 ghost use Rattle.aut.specs.Writing.{name_at};
 ghost use Rattle.search.specs.Finding.{path_in, Counted};
 ghost use Rattle.study.specs.Study.{said};
-ghost use Rattle.listing.specs.Texts.{refused_text, word_of, verdict_text, steps_text, path_text};
+ghost use Rattle.listing.specs.Texts.{refused_text, word_of, figures_text, verdict_text, steps_text, path_text};
 
 use base::{Labels, Refusal};
 use itoa::Buffer;
@@ -35,6 +35,24 @@ fn word(holds: bool) -> &'static [u8]
     if holds { b"YES" } else { b"NO" }
 }
 
+// Writes a number after a space.
+fn push_figure(out: &mut Vec<u8>, figure: usize) -> Result<(), AllocError>
+    ensures { OnOk result (out.new.items ≡ out.old.items ++ (codes " " ++ decimal figure)) }
+{
+    out.extend_from_slice(b" ")?;
+    push_number(out, figure)
+}
+
+// Writes the count, the total and the share of a verdict.
+fn push_figures(out: &mut Vec<u8>, verdict: Verdict) -> Result<(), AllocError>
+    ensures { OnOk result (out.new.items ≡ out.old.items ++ figures_text (said verdict)) }
+{
+    push_figure(out, verdict.count)?;
+    push_figure(out, verdict.total)?;
+    push_figure(out, verdict.share)?;
+    out.extend_from_slice(b"\n")
+}
+
 // Writes the line of a verdict.
 pub(crate) fn push_verdict(
     out: &mut Vec<u8>,
@@ -46,11 +64,7 @@ pub(crate) fn push_verdict(
     push_number(out, number)?;
     out.extend_from_slice(b" ")?;
     out.extend_from_slice(word(verdict.holds))?;
-    for figure in [verdict.count, verdict.total, verdict.share] {
-        out.extend_from_slice(b" ")?;
-        push_number(out, figure)?;
-    }
-    out.extend_from_slice(b"\n")
+    push_figures(out, verdict)
 }
 
 // Writes the label of a step.
