@@ -15,12 +15,13 @@ use Rattle.study.specs.declared.study.Study.{Study}
 use Rattle.study.specs.declared.verdict.Verdict.{Verdict}
 
 -- A call, with what it was answered: of a text and a label list; of a number; of a number and a
--- state; and again, by whatever weight, tariffs and lists.
+-- state; of these and tariffs. Which weight and which lists a path had is not told, since it writes
+-- neither study nor sheets.
 pub data Call : Type 0 where
   enter : List ℕ → List (List ℕ) → Result ℕ Refusal → Call
   judge : ℕ → Result Verdict Refusal → Call
   ask : ℕ → ℕ → Result Bool Refusal → Call
-  path : ℕ → ℕ → Result (Option DecidingPath) Refusal → Call
+  path : ℕ → ℕ → List ℕ → Result (Option DecidingPath) Refusal → Call
 
 -- what the answer to a path tells of the study, whatever its weight, tariffs and lists were
 abbrev pub PathTells : Study → ℕ → ℕ → Result (Option DecidingPath) Refusal → Type 0
@@ -48,9 +49,9 @@ pub data Run (M : Lts) : List Call → Study → Sheets → Type 0 where
       Run M cs st sh → Judges (λ x. x) M n st st' sh sh' r → Run M (judge n r ∷ cs) st' sh'
   asked : {cs : List Call} {st : Study} {sh : Sheets} {n s : ℕ} {r : Result Bool Refusal} →
       Run M cs st sh → Asks M sh st n s r → Run M (ask n s r ∷ cs) st sh
-  path_found : {cs : List Call} {st : Study} {sh : Sheets} {n s : ℕ}
+  path_found : {cs : List Call} {st : Study} {sh : Sheets} {n s : ℕ} {tariffs : List ℕ}
       {r : Result (Option DecidingPath) Refusal} →
-      Run M cs st sh → PathTells st n s r → Run M (path n s r ∷ cs) st sh
+      Run M cs st sh → PathTells st n s r → Run M (path n s tariffs r ∷ cs) st sh
   elsewhere : {cs : List Call} {st : Study} {sh sh' : Sheets} →
       Run M cs st sh → Elsewhere sh sh' → Run M cs st sh'
 
