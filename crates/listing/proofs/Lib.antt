@@ -3,3 +3,6 @@ mod Pushing
 mod Sames
 mod Paths
 mod Ones
+mod Ticks
+mod Airtimes
+mod Answering

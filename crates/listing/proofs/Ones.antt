@@ -24,10 +24,10 @@ use Rattle.aut.specs.Front.{FrontEnds}
 use Rattle.aut.specs.Reading.{met, InRange, HasRoom}
 use Rattle.aut.specs.Systems.{leaving, step_of}
 use Rattle.aut.proofs.Readings as texts
-use Rattle.listing.specs.Airtimes.{by_airtime}
+use Rattle.listing.specs.Airtimes.{by_airtime, one_each}
 use Rattle.listing.specs.Laws.{Alike, AllAlike, OneListing}
 use Rattle.listing.specs.Lines.{lines_of}
-use Rattle.listing.specs.Listing.{Item, refusal, report, VerdictOn, LineRefused, LineRead, one_each, Judged, by_meaning, Answered, AllAnswered, none, more, Said, read, Listing}
+use Rattle.listing.specs.Listing.{Item, refusal, report, VerdictOn, LineRefused, LineRead, Judged, by_meaning, Answered, AllAnswered, none, more, Said, read, Listing}
 use Rattle.listing.specs.Listing as listing
 use Rattle.listing.specs.Models.{tau_alone, TextRefused, no_form, out_of_range, no_room, ModelRefused, no_model, ModelRead}
 use Rattle.listing.specs.Models as models

@@ -6,13 +6,12 @@ use Rattle.meaning.specs.DecidingPaths.{DecidingPath, HandedOutOf}
 use Rattle.meaning.specs.Formula.{Formula}
 use Rattle.meaning.specs.Laws.{RightMarks}
 use Rattle.meaning.specs.Lts.{Lts}
-use Rattle.meaning.specs.Scales.{Scale}
 use Rattle.meaning.specs.Verdicts.{Verdict, verdict}
 use Rattle.formula.specs.Entering.{IsFormula, Unreadable, AllListed, Unlisted}
 use Rattle.formula.specs.Formulas.{by_names, size}
 use Rattle.formula.specs.Trees.{Tree}
 use Rattle.formula.specs.Vocabulary.{by_labels}
-use Rattle.listing.specs.Airtimes.{by_airtime}
+use Rattle.listing.specs.Airtimes.{by_airtime, one_each}
 use Rattle.listing.specs.Lines.{lines_of}
 use Rattle.listing.specs.Models.{ModelRefused, ModelRead}
 use Rattle.listing.specs.Texts.{refused_text, verdict_text, path_text}
@@ -53,10 +52,6 @@ pub record LineRead (names : List (List ℕ)) (formulas nodes : ℕ) (line : Lis
   pub listed : AllListed (by_labels names) is.parses.tokens
   pub few : formulas < 8
   pub small : nodes + size t ≤ 48
-
--- each step has tariff 1
-abbrev pub one_each : ℕ → ℕ
-one_each a = 1
 
 -- What is said of a formula: its verdict, and a deciding path from the start, if there is one.
 pub data Judged (M : Lts) (f : Formula) (n : ℕ) : Item → Type 0 where

@@ -3,4 +3,5 @@
 
 pub mod law;
 mod lines;
+pub mod listing;
 mod texts;

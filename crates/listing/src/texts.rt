@@ -7,7 +7,7 @@ ghost use Rattle.listing.specs.Texts.{refused_text, word_of, figures_text, verdi
 
 use base::{Labels, Refusal};
 use itoa::Buffer;
-use search::{Found, Step};
+use search::{Airtime, Found, Lists, Step};
 use std::alloc::AllocError;
 use study::Verdict;
 
@@ -92,28 +92,24 @@ pub(crate) fn push_path(
     out: &mut Vec<u8>,
     labels: &Labels,
     found: Found,
-    stem: &[Step],
-    cycle: &[Step],
+    lists: &Lists<'_, Airtime>,
 ) -> Result<(), AllocError>
-    requires { Counted stem.now cycle.now found }
-    ensures { OnOk result (out.new.items
-        ≡ out.old.items ++ path_text labels.now (path_in stem.now cycle.now found)) }
+    requires { Counted lists.now.stem.now lists.now.cycle.now found }
+    ensures { OnOk result (out.new.items ≡ out.old.items
+        ++ path_text labels.now (path_in lists.now.stem.now lists.now.cycle.now found)) }
 {
     match found {
         Found::None => Ok(()),
-        Found::Ended { stem: count } => {
+        Found::Ended { stem } => {
             out.extend_from_slice(b"path")?;
-            push_steps(out, labels, &stem[..count])?;
+            push_steps(out, labels, &lists.stem[..stem])?;
             out.extend_from_slice(b"\n")
         }
-        Found::Looping {
-            stem: count,
-            cycle: around,
-        } => {
+        Found::Looping { stem, cycle } => {
             out.extend_from_slice(b"path")?;
-            push_steps(out, labels, &stem[..count])?;
+            push_steps(out, labels, &lists.stem[..stem])?;
             out.extend_from_slice(b" |")?;
-            push_steps(out, labels, &cycle[..around])?;
+            push_steps(out, labels, &lists.cycle[..cycle])?;
             out.extend_from_slice(b"\n")
         }
     }

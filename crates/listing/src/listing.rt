@@ -1,0 +1,67 @@
+ghost use Rattle.std.specs.Prelude.{◌≡◌, ◌≤◌, ◌++◌, List, OnOk, IfOk, ℕ};
+ghost use Rattle.model.specs.Grids.{GridOver};
+ghost use Rattle.model.specs.Cells.{grid_refusal};
+ghost use Rattle.meaning.specs.Lts.{Lts};
+ghost use Rattle.study.specs.Runs.{Call, Run, OnlyFormulaOf, JudgedIn};
+ghost use Rattle.listing.specs.Listing.{Listing};
+ghost use Rattle.listing.specs.Steps.{Stands, Traced, Reported, LineDone, LinesDone};
+
+use crate::lines::next_line;
+use crate::texts::{push_path, push_refusal, push_verdict};
+use aut::{Header, read_front};
+use base::{Labels, Refusal};
+use model::{Cell, Grid, TransitionSystem};
+use search::{Airtime, Entry, Lists, Step};
+use shelf::{ColumnShelf, Shelf};
+use std::alloc::{AllocError, Global};
+use study::Study;
+
+/// The most bytes of an input.
+pub const MOST_INPUT: usize = 32_768;
+
+/// The most states of a model.
+pub const MOST_STATES: usize = 512;
+
+/// How many slots each state has.
+pub const SLOTS: usize = 8;
+
+// Room for the largest model.
+const CELLS: usize = MOST_STATES * SLOTS;
+
+// Each of the 64 actions has tariff 1.
+const TARIFFS: [u16; 64] = [1; 64];
+
+// What stands in a list of steps before a path is written there.
+const NO_STEP: Step = Step {
+    action: 0,
+    state: 0,
+};
+
+// Writes a deciding path of a judged formula from the start, if there is one.
+fn trace<M: TransitionSystem, S: Shelf>(
+    study: &Study,
+    model: &M,
+    shelf: &S,
+    labels: &Labels,
+    number: usize,
+    out: &mut Vec<u8>,
+) -> Result<(), AllocError>
+    requires { (M.meaning model.now).states ≤ 512 }
+    ensures { OnOk result ((calls : List Call)
+        → Run (M.meaning model.now) calls study.now (S.sheets shelf.now) → JudgedIn calls number
+        → Traced (M.meaning model.now) labels.now calls number study.now (S.sheets shelf.now)
+        out.old.items out.new.items) }
+{
+    let mut work = [Entry::<Airtime>::blank(); MOST_STATES];
+    let mut stem = [NO_STEP; MOST_STATES];
+    let mut cycle = [NO_STEP; MOST_STATES];
+    let mut lists = Lists {
+        work: &mut work,
+        stem: &mut stem,
+        cycle: &mut cycle,
+    };
+    match study.path(model, shelf, number, model.start(), &TARIFFS, &mut lists) {
+        Ok(found) => push_path(out, labels, found, &lists),
+        Err(why) => push_refusal(out, why),
+    }
+}
