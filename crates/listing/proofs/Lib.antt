@@ -6,3 +6,4 @@ mod Ones
 mod Ticks
 mod Airtimes
 mod Answering
+mod Passing

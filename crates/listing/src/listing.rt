@@ -2,7 +2,8 @@ ghost use Rattle.std.specs.Prelude.{◌≡◌, ◌≤◌, ◌++◌, List, OnOk, 
 ghost use Rattle.model.specs.Grids.{GridOver};
 ghost use Rattle.model.specs.Cells.{grid_refusal};
 ghost use Rattle.meaning.specs.Lts.{Lts};
-ghost use Rattle.study.specs.Runs.{Call, Run, OnlyFormulaOf, JudgedIn};
+ghost use Rattle.meaning.specs.Formula.{Formula};
+ghost use Rattle.study.specs.Runs.{Call, Run, FormulaOf, JudgedIn};
 ghost use Rattle.listing.specs.Listing.{Listing};
 ghost use Rattle.listing.specs.Steps.{Stands, Traced, Reported, LineDone, LinesDone};
 
@@ -62,6 +63,94 @@ fn trace<M: TransitionSystem, S: Shelf>(
     };
     match study.path(model, shelf, number, model.start(), &TARIFFS, &mut lists) {
         Ok(found) => push_path(out, labels, found, &lists),
+        Err(why) => push_refusal(out, why),
+    }
+}
+
+// Judges a formula, and writes its verdict and its path.
+fn report<M: TransitionSystem, S: Shelf>(
+    study: &mut Study,
+    model: &M,
+    shelf: &mut S,
+    labels: &Labels,
+    number: usize,
+    out: &mut Vec<u8>,
+) -> Result<(), AllocError>
+    requires { (M.meaning model.now).states ≤ 512 }
+    ensures { OnOk result ((calls : List Call)
+        → Run (M.meaning model.now) calls study.old (S.sheets shelf.old)
+        → (f : Formula) → FormulaOf calls number f
+        → Reported (M.meaning model.now) labels.now calls number study.new (S.sheets shelf.new)
+        out.old.items out.new.items) }
+{
+    match study.judge(model, shelf, number) {
+        Ok(verdict) => {
+            push_verdict(out, number, verdict)?;
+            trace(study, model, shelf, labels, number, out)
+        }
+        Err(why) => push_refusal(out, why),
+    }
+}
+
+// Enters a line as a formula, judges it, and writes what is said of it.
+fn answer<M: TransitionSystem, S: Shelf>(
+    study: &mut Study,
+    model: &M,
+    shelf: &mut S,
+    labels: &Labels,
+    line: &[u8],
+    out: &mut Vec<u8>,
+) -> Result<(), AllocError>
+    requires { (M.meaning model.now).states ≤ 512 }
+    ensures { OnOk result ((formulas nodes : ℕ)
+        → Stands (M.meaning model.now) study.old (S.sheets shelf.old) formulas nodes
+        → LineDone (M.meaning model.now) labels.now formulas nodes line.now study.new
+        (S.sheets shelf.new) out.old.items out.new.items) }
+{
+    match study.enter(line, labels) {
+        Ok(number) => report(study, model, shelf, labels, number, out),
+        Err(why) => push_refusal(out, why),
+    }
+}
+
+// Answers the lines of a text, one after another.
+fn answer_all<M: TransitionSystem, S: Shelf>(
+    study: &mut Study,
+    model: &M,
+    shelf: &mut S,
+    labels: &Labels,
+    text: &[u8],
+    out: &mut Vec<u8>,
+) -> Result<(), AllocError>
+    requires { (M.meaning model.now).states ≤ 512 }
+    ensures { OnOk result ((formulas nodes : ℕ)
+        → Stands (M.meaning model.now) study.old (S.sheets shelf.old) formulas nodes
+        → LinesDone (M.meaning model.now) labels.now formulas nodes text.now
+        out.old.items out.new.items) }
+{
+    let mut rest = text;
+    while let Some((line, more)) = next_line(rest) {
+        answer(study, model, shelf, labels, line, out)?;
+        rest = more;
+    }
+    Ok(())
+}
+
+// Answers the lines of a text by a model that was read.
+fn list_formulas<M: TransitionSystem>(
+    model: &M,
+    labels: &Labels,
+    text: &[u8],
+    out: &mut Vec<u8>,
+) -> Result<(), AllocError>
+    requires { (M.meaning model.now).states ≤ 512 }
+    ensures { OnOk result (LinesDone (M.meaning model.now) labels.now 0 0 text.now
+        out.old.items out.new.items) }
+{
+    let mut columns = [0; MOST_STATES];
+    let mut shelf = ColumnShelf::open(&mut columns, model.states());
+    match Study::open(model, &shelf) {
+        Ok(mut study) => answer_all(&mut study, model, &mut shelf, labels, text, out),
         Err(why) => push_refusal(out, why),
     }
 }
