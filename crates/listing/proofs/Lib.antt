@@ -7,3 +7,4 @@ mod Ticks
 mod Airtimes
 mod Answering
 mod Passing
+mod Fronts

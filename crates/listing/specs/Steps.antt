@@ -6,6 +6,9 @@ use Rattle.meaning.specs.Formula.{Formula}
 use Rattle.meaning.specs.Lts.{Lts}
 use Rattle.meaning.specs.Sheets.{Sheets}
 use Rattle.meaning.specs.Verdicts as meant
+use Rattle.model.specs.declared.cell.Cell.{Cell}
+use Rattle.model.specs.Grids.{GridOver}
+use Rattle.aut.specs.declared.header.Header.{Header}
 use Rattle.study.specs.Runs.{Call, Run, judge, path, OnlyFormulaOf, entered_in, NodesIn}
 use Rattle.study.specs.declared.study.Study.{Study}
 use Rattle.study.specs.declared.verdict.Verdict.{Verdict}
@@ -62,3 +65,10 @@ module _ (M : Lts) (names : List (List ℕ)) where
     pub items : List Item
     pub answered : AllAnswered M names formulas nodes (lines_of text) items
     pub written : after ≡ before ++ text_of names items
+
+-- All lines of a text are answered by the grid over some cells.
+pub record GridListed (cells : List Cell) (h : Header) (names : List (List ℕ))
+    (text before after : List ℕ) : Type 0 where
+  pub system : Lts
+  pub over : GridOver system cells h.states 8 h.start
+  pub lines : LinesDone system names 0 0 text before after

@@ -1,11 +1,10 @@
-ghost use Rattle.std.specs.Prelude.{◌≡◌, ◌≤◌, ◌++◌, List, OnOk, IfOk, ℕ};
-ghost use Rattle.model.specs.Grids.{GridOver};
+ghost use Rattle.std.specs.Prelude.{◌≡◌, ◌≤◌, List, None, OnOk, IfOk, ℕ};
 ghost use Rattle.model.specs.Cells.{grid_refusal};
 ghost use Rattle.meaning.specs.Lts.{Lts};
 ghost use Rattle.meaning.specs.Formula.{Formula};
 ghost use Rattle.study.specs.Runs.{Call, Run, FormulaOf, JudgedIn};
 ghost use Rattle.listing.specs.Listing.{Listing};
-ghost use Rattle.listing.specs.Steps.{Stands, Traced, Reported, LineDone, LinesDone};
+ghost use Rattle.listing.specs.Steps.{Stands, Traced, Reported, LineDone, LinesDone, GridListed};
 
 use crate::lines::next_line;
 use crate::texts::{push_path, push_refusal, push_verdict};
@@ -153,4 +152,46 @@ fn list_formulas<M: TransitionSystem>(
         Ok(mut study) => answer_all(&mut study, model, &mut shelf, labels, text, out),
         Err(why) => push_refusal(out, why),
     }
+}
+
+// Answers the lines of a text by the grid over the cells that were read.
+fn list_model(
+    cells: &[Cell],
+    header: Header,
+    labels: &Labels,
+    text: &[u8],
+    out: &mut Vec<u8>,
+) -> Result<(), AllocError>
+    requires states { header.states ≤ 512 }
+    requires stands { grid_refusal cells.now header.states 8 header.start ≡ None }
+    ensures { OnOk result (GridListed cells.now header labels.now text.now
+        out.old.items out.new.items) }
+{
+    match Grid::new(cells, header.size(SLOTS), header.start) {
+        Ok(grid) => list_formulas(&grid, labels, text, out),
+        Err(why) => push_refusal(out, why),
+    }
+}
+
+/// The listing of an input: the model at its front is read, and the lines after it are entered as
+/// formulas, judged and shown by a path from the start, one after another. A refused model ends the
+/// listing; a refused line takes no number. It fails for want of memory alone.
+pub fn listing(alloc: Global, input: &[u8]) -> Result<Vec<u8>, AllocError>
+    ensures { IfOk result (λ out. Listing input.now out.items) }
+{
+    let mut out = Vec::new(alloc);
+    let mut labels = Labels::new();
+    let mut cells = [Cell::EMPTY; CELLS];
+    match read_front(
+        input,
+        MOST_INPUT,
+        &mut labels,
+        &mut cells,
+        SLOTS,
+        MOST_STATES,
+    ) {
+        Ok((header, length)) => list_model(&cells, header, &labels, &input[length..], &mut out)?,
+        Err(why) => push_refusal(&mut out, why)?,
+    }
+    Ok(out)
 }
