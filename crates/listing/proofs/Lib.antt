@@ -5,6 +5,7 @@ mod Paths
 mod Ones
 mod Ticks
 mod Airtimes
-mod Answering
+mod Items
 mod Passing
 mod Fronts
+mod Runnings

@@ -1,7 +1,12 @@
 // The listing: what the program prints for an input, in one call.
 #![tactic(auto)]
 
-pub mod law;
+mod answering;
+mod law;
 mod lines;
-pub mod listing;
+mod streams;
 mod texts;
+
+pub use answering::{MOST_INPUT, MOST_STATES, SLOTS, listing};
+pub use law::one_listing;
+pub use streams::run;

@@ -1,7 +1,7 @@
 use Rattle.std.proofs.Common.{◌++◌, List, ℕ, length}
 use Rattle.listing.specs.Steps.{Stands}
 use Rattle.listing.proofs.Passing.{SoFar}
-use Rattle.listing.proofs.listing.answer_all.Given as goal
+use Rattle.listing.proofs.answering.answer_all.Given as goal
 
 abbrev pub invariant-loop-line : goal.invariant-loop-line
 invariant-loop-line g l = record {

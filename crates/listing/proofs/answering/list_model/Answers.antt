@@ -1,6 +1,6 @@
-use Rattle.listing.proofs.Answering.{on_ok}
+use Rattle.listing.proofs.Items.{on_ok}
 use Rattle.listing.proofs.Fronts.{over_size}
-use Rattle.listing.proofs.listing.list_model.Goals as goal
+use Rattle.listing.proofs.answering.list_model.Goals as goal
 
 pub returns-in-Ok : goal.returns-in-Ok
 returns-in-Ok c =

@@ -1,7 +1,7 @@
 use Rattle.std.proofs.Common.{◌∷◌, Ok, inl, refl}
 use Rattle.study.specs.Runs.{Call}
-use Rattle.listing.proofs.Answering.{on_ok, reported}
-use Rattle.listing.proofs.listing.report.Goals as goal
+use Rattle.listing.proofs.Items.{on_ok, reported}
+use Rattle.listing.proofs.answering.report.Goals as goal
 
 pub returns-in_ok-push_verdict-in-Ok : goal.returns-in_ok-push_verdict-in-Ok
 returns-in_ok-push_verdict-in-Ok g c =

@@ -1,7 +1,7 @@
 use Rattle.std.proofs.Common.{refl}
 use Rattle.listing.proofs.Airtimes.{ticks, told}
-use Rattle.listing.proofs.Answering.{on_ok, traced, not_refused_at}
-use Rattle.listing.proofs.listing.trace.Goals as goal
+use Rattle.listing.proofs.Items.{on_ok, traced, not_refused_at}
+use Rattle.listing.proofs.answering.trace.Goals as goal
 
 pub push_path-requires : goal.push_path-requires
 push_path-requires g c = c.in-Ok.ensures.link.2.2.counted

@@ -1,7 +1,7 @@
 use Rattle.std.proofs.Common.{◌∷◌, Ok}
 use Rattle.study.specs.Runs.{Call}
-use Rattle.listing.proofs.Answering.{on_ok, entered_formula, line_refused, line_done}
-use Rattle.listing.proofs.listing.answer.Goals as goal
+use Rattle.listing.proofs.Items.{on_ok, entered_formula, line_refused, line_done}
+use Rattle.listing.proofs.answering.answer.Goals as goal
 
 pub returns-in-Ok : goal.returns-in-Ok
 returns-in-Ok g c =

@@ -1,5 +1,5 @@
 use Rattle.listing.proofs.Passing.{one_on, all_done}
-use Rattle.listing.proofs.listing.answer_all.Goals as goal
+use Rattle.listing.proofs.answering.answer_all.Goals as goal
 
 pub loop-line-preserved : goal.loop-line-preserved
 loop-line-preserved g c = record {

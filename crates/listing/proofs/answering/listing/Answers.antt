@@ -1,8 +1,8 @@
 use Rattle.std.proofs.Common.{refl}
 use Rattle.std.proofs.lemmas.List.{take_rest}
 use Rattle.listing.proofs.Fronts.{listing_refused, listing_read}
-use Rattle.listing.proofs.listing.listing.Goals as goal
-use Rattle.listing.proofs.listing.listing.Goals.{in-Ok+in_ok-list_model-in-Ok, in-Err+in_ok-push_refusal-in-Err}
+use Rattle.listing.proofs.answering.listing.Goals as goal
+use Rattle.listing.proofs.answering.listing.Goals.{in-Ok+in_ok-list_model-in-Ok, in-Err+in_ok-push_refusal-in-Err}
 
 pub returns : goal.returns
 returns c =
