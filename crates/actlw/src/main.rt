@@ -1,17 +1,12 @@
-// Reads a model and formulas from standard input, and says what it read, or which refusal came.
+// Reads a model and formulas from standard input, and prints the listing: the verdict on each
+// formula, and a path that shows it.
 #![tactic(auto)]
 
-ghost use Rattle.std.specs.Prelude.{◌≡◌, IfOk, string_bytes};
-ghost use Rattle.actlw.specs.Printed.{summary_of};
-
-use aut::{Header, read_front};
-use base::{Labels, Refusal};
-use formula::{Nodes, enter};
-use model::{Cell, Grid, deadlocks};
-use std::alloc::{AllocError, Global};
 use std::io;
-use std::io::Read;
+use std::io::ErrorKind;
+use std::process::ExitCode;
 
+<<<<<<< HEAD
 // The most bytes of standard input that are taken.
 const MOST_INPUT: usize = 32_768;
 
@@ -100,4 +95,17 @@ fn main(rt: HostRuntime) -> io::Result<()> {
         }
         Err(why) => refuse(&rt, why),
     }
+=======
+// Prints the listing of standard input. What went wrong is told in one line on standard error; a
+// reader that has closed the output wants no more of it.
+fn main(rt: HostRuntime) -> io::Result<ExitCode> {
+    match listing::run(rt.alloc(), rt.stdin(), &mut rt.stdout()) {
+        Ok(()) => Ok(ExitCode::SUCCESS),
+        Err(error) if error.kind() == ErrorKind::BrokenPipe => Ok(ExitCode::SUCCESS),
+        Err(error) => {
+            eprintln!(rt; "actlw: {error}")?;
+            Ok(ExitCode::FAILURE)
+        }
+    }
+>>>>>>> 4244cb9bcd478c91819f209d60baddff2f8b6492
 }

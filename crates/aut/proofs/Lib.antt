@@ -1,5 +1,5 @@
 mod Apart
-mod Readings
+pub mod Readings
 mod Rooms
 mod Slots
 mod Stages

@@ -1,0 +1,11 @@
+mod Cuts
+mod Pushing
+mod Sames
+mod Paths
+mod Ones
+mod Ticks
+mod Airtimes
+mod Items
+mod Passing
+mod Fronts
+mod Runnings
