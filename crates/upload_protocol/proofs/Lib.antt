@@ -1,0 +1,3 @@
+mod Drawn
+mod Fits
+mod Written

@@ -1,0 +1,4 @@
+pub mod Drawings
+pub mod Actions
+pub mod Parts
+pub mod Protocol
