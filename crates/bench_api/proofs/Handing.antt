@@ -5,7 +5,7 @@ use Rattle.base.specs.declared.refusal.Refusal.TheVariants.{Short, Garbled, Rang
 use Rattle.meaning.specs.DecidingPaths.{HandedOutOf}
 use Rattle.meaning.specs.Lts.{Lts}
 use Rattle.meaning.specs.Scales.{Scale}
-use Rattle.meaning.specs.Sheets.{Sheets}
+use Rattle.shelf.specs.Sheets.{Sheets}
 use Rattle.formula.specs.declared.nodes.Nodes.{Nodes}
 use Rattle.marking.specs.Marking.{AllMarked, Marked}
 use Rattle.model.specs.declared.cell.Cell.{Cell}
@@ -48,7 +48,7 @@ module _ (text : List ℕ) (cells : List Cell) (n w : ℕ) (M : Lts) (grid : Gri
 
     -- the work list is long enough for every model
     short : (covered : ℕ) (before : Held V) → 65536 ≤ length before.work → TooShort M.states before → NoAnswer text cells n w covered before.stem before.cycle
-    short covered before long (inl l) = absurd (let few = M.few_states in omega arith)
+    short covered before long (inl l) = absurd (let few = M.lawful.few_states in omega arith)
     short covered before long (inr (inl l)) = few_steps (inl (omega (arith, grid.states_are)))
     short covered before long (inr (inr l)) = few_steps (inr (omega (arith, grid.states_are)))
 
@@ -57,7 +57,7 @@ module _ (text : List ℕ) (cells : List Cell) (n w : ℕ) (M : Lts) (grid : Gri
     unanswered covered before after Short long (inl c, same) = absurd (c (marked.covers ∙ marked.same_states))
     unanswered covered before after Short long (inr r, same) = (short covered before long r.1.1, same)
     unanswered covered before after Unheard long r = absurd (omega (arith, table.alone, r.1))
-    unanswered covered before after Range long r = absurd (let b = M.some_states in omega (arith, r.1))
+    unanswered covered before after Range long r = absurd (let b = M.lawful.some_states in omega (arith, r.1))
     unanswered covered before after Garbled long r = absurd r
     unanswered covered before after Crowded long r = absurd r
     unanswered covered before after Grammar long r = absurd r

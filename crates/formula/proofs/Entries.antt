@@ -155,8 +155,3 @@ module _ (text : List ℕ) (ts : List Tok) (lexed : tokens_of text ≡ Some ts) 
     from_tokens (Err Nameless) k = (k.0, is_formula k.0 s f k.1, k.2)
     from_tokens (Err Full) k = (k.0, is_formula k.0 s f k.1, k.2, k.3)
     from_tokens (Err e) k = absurd k
-
--- a text that is not empty
-pub not_empty : (text : List ℕ) → false ≡ eqb (length text) 0 → 1 ≤ length text
-not_empty [] h = absurd (false≢true h)
-not_empty (b ∷ text) h = omega arith

@@ -6,7 +6,7 @@ use Rattle.meaning.specs.DecidingPaths.{DecidingPath, HandedOutOf}
 use Rattle.meaning.specs.Formula.{Formula}
 use Rattle.meaning.specs.Lts.{Lts}
 use Rattle.meaning.specs.Scales.{Scale}
-use Rattle.meaning.specs.Sheets.{Sheets}
+use Rattle.shelf.specs.Sheets.{Sheets}
 use Rattle.formula.specs.Entering.{IsFormula}
 use Rattle.formula.specs.Formulas.{by_names, size}
 use Rattle.formula.specs.Grammar.{Parses}
@@ -58,7 +58,7 @@ module _ (M : Lts) (names : List (List ℕ)) where
     not_refused room Short l (inl h) = h refl
     not_refused room Short l (inr h) = absurd (omega (arith, l, h.3))
     not_refused room Unheard l h = h.1 judged
-    not_refused room Range l h = absurd (omega (arith, M.begins, h.2))
+    not_refused room Range l h = absurd (omega (arith, M.lawful.begins, h.2))
     not_refused room Garbled l h = h
     not_refused room Crowded l h = h
     not_refused room Grammar l h = h

@@ -89,7 +89,7 @@ module _ (M N : Lts) (same : Same M N) (f : Formula) where
   verdict_one v w p q =
       let X = p.0 in let Y = q.0 in
       let e = marks_one X Y p.1 q.1 in
-      let start : X M.start ≡ Y N.start = e M.start M.begins ∙ ap Y same.start in
+      let start : X M.start ≡ Y N.start = e M.start M.lawful.begins ∙ ap Y same.start in
       let many : count_of M X ≡ count_of N Y = counts_one _ _ M.states (λ s l. ap (λ b. counted M s && b) (e s l)) ∙ ap (count_below (λ s. counted N s && Y s)) same.states in
       let all : total M ≡ total N = ap (count_below (counted N)) same.states in
       p.2 ∙ ap (λ b. verdict_of b (count_of M X) (total M)) start ∙ ap (λ n. verdict_of (Y N.start) n (total M)) many ∙ ap (λ n. verdict_of (Y N.start) (count_of N Y) n) all ∙ sym q.2

@@ -2,7 +2,7 @@
 use Rattle.std.proofs.Common.{◌≡◌, ℕ, List, [], ◌∷◌, ◌++◌, append_assoc, sym, refl, ap, ◌∙◌, subst}
 use Rattle.std.proofs.lemmas.List.{append-nil}
 use Rattle.meaning.specs.Lts.{Lts}
-use Rattle.meaning.specs.Sheets.{Sheets}
+use Rattle.shelf.specs.Sheets.{Sheets}
 use Rattle.study.specs.declared.study.Study.{Study}
 use Rattle.listing.specs.Lines.{lines_of}
 use Rattle.listing.specs.Listing.{Item, item_text, text_of, AllAnswered, none, more}

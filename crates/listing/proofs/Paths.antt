@@ -64,12 +64,12 @@ has_deciding {M} {N} e f s l m h = (where_shown N f s m).1 (to_show e f s ((wher
 -- whether a path is handed out is the same in both
 module _ {V : Type 0} (scale : Scale V) (tariff : ℕ → ℕ) (M N : Lts) (e : Same M N) (f : Formula) where
   begins : M.start < N.states
-  begins = subst (λ (n : ℕ). M.start < n) e.states M.begins
+  begins = subst (λ (n : ℕ). M.start < n) e.states M.lawful.begins
 
   pub both_or_none : (p q : Option DecidingPath) → HandedOutOf scale tariff M f M.start p → HandedOutOf scale tariff N f M.start q → is_some p ≡ is_some q
   both_or_none None None h k = refl
   both_or_none (Some p) (Some q) h k = refl
   both_or_none None (Some q) h k =
-      absurd (not_there scale tariff M f M.start h (has_deciding (back e) f M.start begins M.begins (is_there scale tariff N f M.start q k)))
+      absurd (not_there scale tariff M f M.start h (has_deciding (back e) f M.start begins M.lawful.begins (is_there scale tariff N f M.start q k)))
   both_or_none (Some p) None h k =
-      absurd (not_there scale tariff N f M.start k (has_deciding e f M.start M.begins begins (is_there scale tariff M f M.start p h)))
+      absurd (not_there scale tariff N f M.start k (has_deciding e f M.start M.lawful.begins begins (is_there scale tariff M f M.start p h)))

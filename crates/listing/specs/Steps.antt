@@ -4,7 +4,7 @@ use Rattle.base.specs.declared.refusal.Refusal.{Refusal}
 use Rattle.meaning.specs.DecidingPaths.{DecidingPath, HandedOutOf}
 use Rattle.meaning.specs.Formula.{Formula}
 use Rattle.meaning.specs.Lts.{Lts}
-use Rattle.meaning.specs.Sheets.{Sheets}
+use Rattle.shelf.specs.Sheets.{Sheets}
 use Rattle.meaning.specs.Verdicts as meant
 use Rattle.model.specs.declared.cell.Cell.{Cell}
 use Rattle.model.specs.Grids.{GridOver}

@@ -9,7 +9,7 @@ use Rattle.meaning.specs.Laws.{RightMarks}
 use Rattle.meaning.specs.Lts.{Lts}
 use Rattle.meaning.specs.Paths.{Kind}
 use Rattle.meaning.specs.Scales.{Scale}
-use Rattle.meaning.specs.Sheets.{Sheets}
+use Rattle.shelf.specs.Sheets.{Sheets}
 use Rattle.meaning.specs.Verdicts as meant
 use Rattle.formula.specs.declared.nodes.Nodes.{Nodes}
 use Rattle.formula.specs.Entering.{NoRoom, eight_formulas, too_many_nodes}

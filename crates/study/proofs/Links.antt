@@ -1,7 +1,7 @@
 -- What the calls do, as their links say it.
 use Rattle.std.proofs.Common.{◌≡◌, ℕ, ◌*◌, ◌/◌, ◌<◌, Bool, true, length, slice_set, sym, ap, ◌∙◌, subst, arith}
 use Rattle.meaning.specs.Lts.{Lts, count_below}
-use Rattle.meaning.specs.Sheets.{Sheets}
+use Rattle.shelf.specs.Sheets.{Sheets}
 use Rattle.meaning.specs.Verdicts as meant
 use Rattle.meaning.proofs.Verdicts.{total-is}
 use Rattle.formula.specs.declared.nodes.Nodes.{Nodes}

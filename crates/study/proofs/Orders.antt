@@ -6,7 +6,7 @@ use Rattle.base.specs.declared.refusal.Refusal.{Refusal}
 use Rattle.meaning.specs.DecidingPaths as deciding
 use Rattle.meaning.specs.Lts.{Lts}
 use Rattle.meaning.specs.Scales.{Scale}
-use Rattle.meaning.specs.Sheets.{Sheets}
+use Rattle.shelf.specs.Sheets.{Sheets}
 use Rattle.study.specs.Laws.{PathLaw}
 use Rattle.study.specs.Orders.{path_said, with_call, calls_after, IsRight, AllRight, GoesOn, Spared}
 use Rattle.study.specs.Runs.{Call, path, Run}

@@ -6,7 +6,7 @@ use Rattle.base.specs.declared.refusal.Refusal.TheVariants.{Short, Unheard}
 use Rattle.meaning.specs.Formula.{Formula, Holds}
 use Rattle.meaning.specs.Laws.{RightMarks}
 use Rattle.meaning.specs.Lts.{Lts}
-use Rattle.meaning.specs.Sheets.{Sheets}
+use Rattle.shelf.specs.Sheets.{Sheets}
 use Rattle.formula.specs.declared.nodes.Nodes.{Nodes}
 use Rattle.formula.specs.Entering.{Added, OneMore}
 use Rattle.formula.specs.Formulas.{by_names}

@@ -7,7 +7,7 @@ use Rattle.base.specs.declared.refusal.Refusal.TheVariants.{Short}
 use Rattle.meaning.specs.DecidingPaths as deciding
 use Rattle.meaning.specs.Lts.{Lts}
 use Rattle.meaning.specs.Scales.{Scale}
-use Rattle.meaning.specs.Sheets.{Sheets}
+use Rattle.shelf.specs.Sheets.{Sheets}
 use Rattle.search.specs.Quests.{steps_of}
 use Rattle.study.specs.Laws.{EnterLaw, JudgeLaw, AskLaw, PathLaw}
 use Rattle.study.specs.Runs.{Call, enter, judge, ask, path, Run}

@@ -6,7 +6,7 @@ use Rattle.meaning.specs.DecidingPaths.{DecidingPath, HandedOutOf}
 use Rattle.meaning.specs.Formula.{Formula}
 use Rattle.meaning.specs.Lts.{Lts}
 use Rattle.meaning.specs.Scales.{Scale}
-use Rattle.meaning.specs.Sheets.{Sheets}
+use Rattle.shelf.specs.Sheets.{Sheets}
 use Rattle.formula.specs.Formulas.{by_names, size}
 use Rattle.formula.specs.Grammar.{Parses}
 use Rattle.formula.specs.Nodes.{formula_of}

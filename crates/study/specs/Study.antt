@@ -4,7 +4,7 @@ use Rattle.base.specs.declared.refusal.Refusal.{Refusal}
 use Rattle.base.specs.declared.refusal.Refusal.TheVariants.{Short, Range, Unheard}
 use Rattle.meaning.specs.Lts.{Lts}
 use Rattle.meaning.specs.Scales.{Scale}
-use Rattle.meaning.specs.Sheets.{Sheets}
+use Rattle.shelf.specs.Sheets.{Sheets}
 use Rattle.meaning.specs.Verdicts as meant
 use Rattle.formula.specs.declared.nodes.Nodes.{Nodes}
 use Rattle.formula.specs.declared.nodes.Span.{Span}

@@ -22,7 +22,7 @@ pub struct Study {
 impl Study {
     ghost use Rattle.std.specs.Prelude.{◌↔◌, List, [], ◌∷◌, IsTrue, IfOk};
     ghost use Rattle.meaning.specs.Lts.{Lts};
-    ghost use Rattle.meaning.specs.Sheets.{Sheets};
+    ghost use Rattle.shelf.specs.Sheets.{Sheets};
     ghost use Rattle.search.specs.Finding.{held};
     ghost use Rattle.study.specs.Study.{Fits, Opens, Enters, Judges, Asks, FindsPath, path_call};
     ghost use Rattle.study.specs.Runs.{Call, Run, enter, judge, ask, path};

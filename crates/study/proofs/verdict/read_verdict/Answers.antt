@@ -8,7 +8,7 @@ pub overflow_mul-result : goal.overflow_mul-result
 overflow_mul-result g c =
     let sh = g.S.Shelf.sheets c.args.shelf.now in
     let M = g.M.TransitionSystem.meaning c.args.model.now in
-    let few : M.states ≤ 65536 = M.few_states in
+    let few : M.states ≤ 65536 = M.lawful.few_states in
     omega (arith, c.count-marked.ensures, count_fits (sh.on c.args.sheet) sh.covers, c.requires, few)
 
 pub returns : goal.returns
