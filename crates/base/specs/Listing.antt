@@ -1,7 +1,7 @@
 -- The list of names that a label list holds, and what looking up and adding make of it.
 use Rattle.std.specs.Prelude.{◌≡◌, ℕ, Bool, true, false, not, ◌&&◌, ◌||◌, List, [], ◌∷◌, ◌++◌}
-use Rattle.std.specs.Prelude.{length, IsTrue, IsFalse, is_some, Some, Ok, Err, codes, Option, Result, nat_lt}
-use Rattle.std.specs.Prelude.{if◌then◌else◌}
+use Rattle.std.specs.Prelude.{length, IsTrue, IsFalse, is_some, Some, Ok, Err, codes, Option}
+use Rattle.std.specs.Prelude.{Result, nat_lt, if◌then◌else◌}
 use Rattle.std.specs.List.{list_all, list_any, position_from, fold}
 use Rattle.std.specs.Str.{bytes_eq}
 use Rattle.base.specs.Names.{is_name}
