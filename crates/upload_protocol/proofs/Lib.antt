@@ -1,3 +1,5 @@
 mod Drawn
 mod Fits
+mod Acts
+mod Room
 mod Written
