@@ -1,10 +1,12 @@
 -- What each call answers after a run.
-use Rattle.std.proofs.Common.{◌≡◌, ◌↔◌, ℕ, ◌+◌, ◌<◌, Bool, List, length, slice_index_or, Some, None, Ok, Err, IsTrue, Option, Result, sym, refl, ap, ◌∙◌, subst, inl, inr, arith}
+use Rattle.std.proofs.Common.{◌≡◌, ◌↔◌, ℕ, ◌+◌, ◌<◌, Bool, List, length, slice_index_or, Some, None, Ok, Err, is_some, IsSome, IsTrue, Option, Result, sym, refl, ap, ◌∙◌, subst, inl, inr, arith}
+use Rattle.std.proofs.lemmas.Bool.{false≢true}
 use Rattle.std.proofs.lemmas.List.{length-append, length_push}
 use Rattle.base.specs.declared.refusal.Refusal.{Refusal}
 use Rattle.base.specs.declared.refusal.Refusal.TheVariants.{Short, Range, Grammar, Nameless, Full, Unheard}
-use Rattle.meaning.specs.DecidingPaths.{DecidingPath, ended, looping, LightestOne, HandedOut, HandedOutOf}
-use Rattle.meaning.specs.Formula.{Quantifier, Temporal, Formula, TRUE, FALSE, NOT, AND, OR, path, Holds, Part}
+use Rattle.meaning.specs.DecidingPaths.{DecidingPath, ended, looping, Chosen, LightestOne, HandedOut, HandedOutOf, HasDecidingOf}
+use Rattle.meaning.specs.Deciding.{OnlyFirst, Goal, Lasting, Lasts, HasDeciding}
+use Rattle.meaning.specs.Formula.{Quantifier, E, A, Temporal, U, W, Formula, TRUE, FALSE, NOT, AND, OR, path, Holds, Part}
 use Rattle.meaning.specs.Laws.{RightMarks}
 use Rattle.meaning.specs.Lts.{Lts}
 use Rattle.meaning.specs.Paths.{Kind}
@@ -19,10 +21,10 @@ use Rattle.formula.proofs.Entries.{few_shapes, few_roots}
 use Rattle.search.specs.declared.found.Found.{Found}
 use Rattle.search.specs.Finding.{Held, TooShort, path_in}
 use Rattle.search.proofs.Formulas.{where_shown}
-use Rattle.paths.specs.Asking.{RightSheets}
+use Rattle.paths.specs.Asking.{RightSheets, PathFound}
 use Rattle.study.specs.Laws.{Alike, EnterLaw, HasNoRoom, JudgeLaw, AskLaw, PathLaw, path_answer, room}
 use Rattle.study.specs.Runs.{Call, Run, OnlyFormulaOf, no_weight, PathTells}
-use Rattle.study.specs.Study.{PathCall, said, nodes, formulas, Enters, Judges, Asks, FindsPath}
+use Rattle.study.specs.Study.{PathCall, asked, said, nodes, formulas, Enters, Judges, Asks, FindsPath}
 use Rattle.study.specs.declared.study.Study.{Study}
 use Rattle.study.specs.declared.verdict.Verdict.{Verdict}
 use Rattle.study.proofs.Runs.{Kept, kept}
@@ -101,6 +103,43 @@ ask_law N M cs st sh n s (Err Range) run e =
     let k = kept run in (e.0.0 ∙ k.states_are, k.flagged n e.1, omega (arith, e.2, k.states_are))
 ask_law N M cs st sh n s (Err x) run e = absurd e
 
+-- a path is handed out exactly where there is a deciding path
+module _ {V : Type 0} (scale : Scale V) (tariff : ℕ → ℕ) where
+  lasts : (M : Lts) (s : ℕ) (K : Kind) (p : DecidingPath) → Chosen M s K p → Lasts M s K
+  lasts M s K (ended v) c = inl (v, c)
+  lasts M s K (looping v w) c = inr (v, w, c.1)
+
+  has_lasting : (M : Lts) (q : Quantifier) (o : Temporal) (First Second : Kind) (s : ℕ) (p : DecidingPath) → Lasting q o First Second (λ K. Chosen M s K p)
+      → Lasting q o First Second (Lasts M s)
+  has_lasting M E U First Second s p c = c
+  has_lasting M E W First Second s p c = lasts M s _ p c
+  has_lasting M A U First Second s p c = lasts M s _ p c
+  has_lasting M A W First Second s p c = c
+
+  has_decisive : (M : Lts) (q : Quantifier) (o : Temporal) (First Second : Kind) (s : ℕ) (p : DecidingPath)
+      → LightestOne scale tariff M (OnlyFirst First Second) (Goal q First Second) s p → HasDeciding M q o First Second s
+  has_decisive M q o First Second s (ended v) l = inl (v, l.0)
+  has_decisive M q o First Second s (looping v w) l = absurd l
+
+  has_one : (M : Lts) (q : Quantifier) (o : Temporal) (First Second : Kind) (s : ℕ) (p : Option DecidingPath) → HandedOut scale tariff M q o First Second s p
+      → IsSome p ↔ HasDeciding M q o First Second s
+  has_one M q o First Second s None h = (λ e. absurd (false≢true e), λ d. absurd (h d))
+  has_one M q o First Second s (Some p) h = (
+    λ e. elim h.1 [ inl l ↦ has_decisive M q o First Second s p l | inr l ↦ inr (has_lasting M q o First Second s p l.1) ],
+    λ d. refl,
+  )
+
+  no_one : (p : Option DecidingPath) → p ≡ None → IsSome p ↔ ⊥
+  no_one p e = (λ h. absurd (false≢true (sym (ap is_some e) ∙ h)), λ x. absurd x)
+
+  has_one_of : (M : Lts) (f : Formula) (s : ℕ) (p : Option DecidingPath) → HandedOutOf scale tariff M f s p → IsSome p ↔ HasDecidingOf M f s
+  has_one_of M TRUE s p h = no_one p h
+  has_one_of M FALSE s p h = no_one p h
+  has_one_of M (NOT f) s p h = has_one_of M f s p h
+  has_one_of M (AND f g) s p h = no_one p h
+  has_one_of M (OR f g) s p h = no_one p h
+  has_one_of M (path q o c f d g) s p h = has_one M q o (Part c (Holds M f)) (Part d (Holds M g)) s p h
+
 module _ {W : Type 0} (q : PathCall W) (N M : Lts) (alike : Alike N M) (cs : List Call) (st : Study) (sh : Sheets) (before after : Held W) where
   abbrev n : ℕ
   n = q.formula
@@ -110,6 +149,13 @@ module _ {W : Type 0} (q : PathCall W) (N M : Lts) (alike : Alike N M) (cs : Lis
 
   short : (k : ℕ) → TooShort k before → room before < k
   short k t = elim t [ inl x ↦ omega arith | inr x ↦ elim x [ inl y ↦ omega arith | inr y ↦ omega arith ] ]
+
+  -- what is handed out, by right marks
+  handed : (r : Found) → N.states ≡ M.states → RightSheets M (nodes st) n sh → PathFound (asked q N sh st) before after r
+      → HandedOutOf q.scale (λ a. slice_index_or q.tariffs a 0) M (formula_of (nodes st) n) q.state (path_in after.stem after.cycle r)
+  handed r same right found =
+      subst (λ (L : Lts). HandedOutOf q.scale (λ a. slice_index_or q.tariffs a 0) L (formula_of (nodes st) n) q.state (path_in after.stem after.cycle r)) (alike same)
+      (found.path (right_by (alike same) right))
 
   pub path_law : (r : Result Found Refusal) → Run M cs st sh → FindsPath q N sh st before after r → PathLaw q M N.states cs (room before) (path_answer after r)
   path_law (Ok r) run e =
@@ -125,8 +171,8 @@ module _ {W : Type 0} (q : PathCall W) (N M : Lts) (alike : Alike N M) (cs : Lis
           formula_of (nodes st) n,
           the_formula M st sh cs n k e.1.0,
           (
-            subst (λ (L : Lts). HandedOutOf q.scale (λ a. slice_index_or q.tariffs a 0) L (formula_of (nodes st) n) q.state (path_in after.stem after.cycle r)) (alike same)
-                (e.2.2.path (right_by (alike same) (k.marks n e.1))),
+            handed r same (k.marks n e.1) e.2.2,
+            has_one_of q.scale (λ a. slice_index_or q.tariffs a 0) M (formula_of (nodes st) n) q.state (path_in after.stem after.cycle r) (handed r same (k.marks n e.1) e.2.2),
             where_shown M (formula_of (nodes st) n) q.state inside,
           ),
         ),

@@ -227,7 +227,7 @@ kept_elsewhere M cs covered ns rs sh sh' k e = record {
 
 pub kept : {M : Lts} {cs : List Call} {st : Study} {sh : Sheets} → Run M cs st sh → Kept M cs st sh
 kept {M} (opened {st = st} {sh = sh} o) =
-    none M (states st) (nodes st) (records st) sh o.0 o.1 st.rows o.2 o.3
+    none M (states st) (nodes st) (records st) sh o.0 o.1 st.rows (ap length o.2) (ap length o.3)
 kept {M} {sh = sh} (entered {cs = cs} {st = st} {st' = st'} {text = text} {labels = labels} {r = Ok n} run e) =
     subst (λ (x : ℕ). Told M (enter text labels (Ok n) ∷ cs) x (nodes st') (records st') sh) (sym e.2)
     (subst (λ (rs : List Record). Told M (enter text labels (Ok n) ∷ cs) (states st) (nodes st') rs sh) (sym e.1)

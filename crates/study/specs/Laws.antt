@@ -1,5 +1,5 @@
 -- THE LAW OVER RUNS: what each call answers after a list of calls, told from the list alone.
-use Rattle.std.specs.Prelude.{◌≡◌, ◌↔◌, ℕ, ◌+◌, ◌<◌, ◌≤◌, ◌⊎◌, Bool, List, Ok, Err, Option, Result, IsTrue, length, min, slice_index_or}
+use Rattle.std.specs.Prelude.{◌≡◌, ◌↔◌, ℕ, ◌+◌, ◌<◌, ◌≤◌, ◌⊎◌, Bool, List, Ok, Err, Option, Result, IsTrue, IsSome, length, min, slice_index_or}
 use Rattle.base.specs.declared.refusal.Refusal.{Refusal}
 use Rattle.base.specs.declared.refusal.Refusal.TheVariants.{Short, Range, Grammar, Nameless, Full, Unheard}
 use Rattle.meaning.specs.DecidingPaths.{DecidingPath, HandedOutOf, HasDecidingOf, HasToShow}
@@ -80,11 +80,12 @@ path_answer after (Ok r) = Ok (path_in after.stem after.cycle r)
 path_answer after (Err e) = Err e
 
 -- What is handed out of a formula: a lightest decisive path if there is a decisive one, else a
--- lasting one, else none, as there is none. There is a deciding path exactly where an E formula
--- holds or an A formula fails, leading NOTs set aside.
+-- lasting one; a path exactly where there is a deciding path; and there is one exactly where an E
+-- formula holds or an A formula fails, leading NOTs set aside.
 abbrev pub HandsOut : {W : Type 0} → PathCall W → Lts → Formula → Option DecidingPath → Type 0
 HandsOut q M f p =
     HandedOutOf q.scale (λ a. slice_index_or q.tariffs a 0) M f q.state p
+    × (IsSome p ↔ HasDecidingOf M f q.state)
     × (HasDecidingOf M f q.state ↔ HasToShow M f q.state)
 
 -- A PATH of formula n from state s, by the weight and tariffs of this call: 1 for another number of

@@ -1,5 +1,5 @@
 -- What a study holds, and what each of its calls promises.
-use Rattle.std.specs.Prelude.{◌≡◌, ℕ, ◌<◌, ◌≤◌, ◌⊎◌, Bool, true, false, List, length, Ok, Err, Result, IsTrue, slice_set, slice_index_or}
+use Rattle.std.specs.Prelude.{◌≡◌, ℕ, ◌<◌, ◌≤◌, ◌⊎◌, Bool, true, false, List, [], replicate, length, Ok, Err, Result, IsTrue, slice_set, slice_index_or}
 use Rattle.base.specs.declared.refusal.Refusal.{Refusal}
 use Rattle.base.specs.declared.refusal.Refusal.TheVariants.{Short, Range, Unheard}
 use Rattle.meaning.specs.Lts.{Lts}
@@ -50,8 +50,8 @@ Fits M sh st = (M.states ≡ states st) × (sh.covers ≡ states st)
 -- OPENING: no formula yet; 1 where the shelf covers another number of states than the model has.
 abbrev pub Opens : Lts → Sheets → Result Study Refusal → Type 0
 Opens M sh (Ok st) =
-    (sh.covers ≡ M.states) × (states st ≡ M.states) × (formulas st ≡ 0)
-    × (length (shapes (nodes st)) ≡ 0)
+    (sh.covers ≡ M.states) × (states st ≡ M.states) × (roots (nodes st) ≡ [])
+    × (shapes (nodes st) ≡ []) × (records st ≡ replicate 8 (marked_as false))
 Opens M sh (Err Short) = ¬ (sh.covers ≡ M.states)
 Opens M sh (Err e) = ⊥
 

@@ -3,7 +3,7 @@ use base::{Labels, Refusal};
 use search::Step;
 
 /// An order to a study: one of its calls, with what it is handed.
-#[derive(Clone, Copy)]
+#[derive(Clone, Copy, PartialEq, Eq, Debug)]
 pub enum Order<'a> {
     Enter {
         text: &'a [u8],
@@ -24,14 +24,14 @@ pub enum Order<'a> {
 }
 
 /// A deciding path: one that ends, or one that closes a cycle.
-#[derive(Drop)]
+#[derive(Drop, PartialEq, Eq, Debug)]
 pub enum DecidingPath {
     Ended { stem: Vec<Step> },
     Looping { stem: Vec<Step>, cycle: Vec<Step> },
 }
 
 /// What an order was answered, as the call of that name answers it; for a path, with its steps.
-#[derive(Drop)]
+#[derive(Drop, PartialEq, Eq, Debug)]
 pub enum Answer {
     Entered(Result<usize, Refusal>),
     Judged(Result<Verdict, Refusal>),

@@ -1,4 +1,4 @@
-use Rattle.std.proofs.Common.{length, sym, ap, ◌∙◌}
+use Rattle.std.proofs.Common.{sym, refl, ◌∙◌}
 use Rattle.study.specs.Runs.{opened}
 use Rattle.study.proofs.study.Study.open.Goals as goal
 
@@ -7,6 +7,7 @@ returns-clause-run g c =
     opened (
       sym c.covers.ensures ∙ c.if-covers-states.false ∙ c.states-states.ensures,
       c.states-states.ensures,
-      ap length c.new.ensures.formulas,
-      ap length c.new.ensures.nodes,
+      c.new.ensures.formulas,
+      c.new.ensures.nodes,
+      refl,
     )
