@@ -3,9 +3,8 @@ ghost use Rattle.formula.specs.Shapes.{shape, formula_at};
 ghost use Rattle.marking.specs.Marking.{OwnTo};
 ghost use Rattle.paths.specs.Cores.{core, node_at, ReadsAs};
 
-use formula::node::Node;
-use formula::nodes::Span;
-use marking::path_formula::PathFormula;
+use formula::{Node, Span};
+use marking::PathFormula;
 
 // The number of the node that is left of a formula's root when leading NOTs are set aside.
 pub(crate) fn core_of(nodes: &[Node], span: Span) -> usize
