@@ -355,7 +355,7 @@ fn run() {
     }
 }
 
-/// The library keeps a work list of 3 MB on the stack, where it is called for paths.
+/// The library keeps a work list of 1.5 MB on the stack, where it is called for paths.
 fn main() {
     const STACK: usize = 64 << 20;
     std::thread::Builder::new().stack_size(STACK).spawn(run).expect("a thread").join().expect("no panic");

@@ -3,12 +3,8 @@ use crate::reading::{core_of, operator_of};
 use base::Refusal;
 use formula::Nodes;
 use model::TransitionSystem;
-use search::finding::refusal;
-use search::found::Found;
-use search::lists::Lists;
-use search::search::Search;
-use search::weight::Weight;
-use shelf::shelf::Shelf;
+use search::{Found, Lists, Search, Weight, refusal};
+use shelf::Shelf;
 
 /// A question for a deciding path of a formula of a table from a state: the formula's number, and a
 /// shelf with the marks of its nodes, as marking leaves them, each on the sheet of its number.

@@ -1,16 +1,10 @@
 use base::{Labels, Name, Refusal};
 use formula::{Nodes, enter};
 use marking::mark;
-use model::cell::Cell;
-use model::grid::Grid;
-use model::size::Size;
-use paths::question::PathQuestion;
-use search::airtime::Airtime;
-use search::entry::Entry;
-use search::found::Found;
-use search::lists::Lists;
-use search::step::Step;
-use shelf::bit_shelf::BitShelf;
+use model::{Cell, Grid, Size};
+use paths::PathQuestion;
+use search::{Airtime, Entry, Found, Lists, Step};
+use shelf::BitShelf;
 use std::test::Fail;
 
 // How many states the model has.

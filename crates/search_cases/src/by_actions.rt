@@ -1,5 +1,5 @@
 use base::ActionSet;
-use search::operator::{Operator, StepKind};
+use search::{Operator, StepKind};
 
 // The four operators.
 #[derive(Clone, Copy)]

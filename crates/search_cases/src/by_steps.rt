@@ -1,6 +1,6 @@
 ghost use Rattle.std.specs.Prelude.{◌≤◌};
 
-use search::weight::Weight;
+use search::Weight;
 
 // Airtime, and the number of steps where the airtimes are equal. What is past the greatest airtime
 // is as heavy as can be.

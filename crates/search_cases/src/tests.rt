@@ -1,18 +1,8 @@
 use crate::by_actions::{ByActions, Kind};
 use crate::by_steps::BySteps;
 use base::{ActionSet, Refusal};
-use model::cell::Cell;
-use model::grid::Grid;
-use model::size::Size;
-use search::airtime::Airtime;
-use search::entry::Entry;
-use search::found::Found;
-use search::lists::Lists;
-use search::peak::Peak;
-use search::search::Search;
-use search::step::Step;
-use search::tail::{Counts, Part, tail_from};
-use search::weight::Weight;
+use model::{Cell, Grid, Size};
+use search::{Airtime, Counts, Entry, Found, Lists, Part, Peak, Search, Step, Weight, tail_from};
 use std::test::Fail;
 
 // Room for each list.
