@@ -135,9 +135,7 @@ pub extern "C" fn neqoylla_path_airtime(
         cycle,
     };
     let size = Size { states, slots };
-    *outcome = outcome_of(find_path(
-        text, cells, size, tariffs, rounds, columns, &mut lists,
-    ));
+    *outcome = outcome_of(find_path(text, cells, size, tariffs, rounds, columns, &mut lists));
 }
 
 /// The same by peak.
@@ -166,7 +164,5 @@ pub extern "C" fn neqoylla_path_peak(
         cycle,
     };
     let size = Size { states, slots };
-    *outcome = outcome_of(find_path(
-        text, cells, size, tariffs, rounds, columns, &mut lists,
-    ));
+    *outcome = outcome_of(find_path(text, cells, size, tariffs, rounds, columns, &mut lists));
 }
