@@ -122,27 +122,27 @@ fn worked(rt: HostRuntime) -> Result<(), Fail> {
     let mut shelf = ColumnShelf::open(&mut columns, STATES);
     let log = carry_out(rt.alloc(), &model, &mut shelf, &mut lists, &orders)?;
     assert_eq!(rt; log.len(), orders.len());
-    assert!(rt; matches!(log[0], Answer::Entered(Ok(0))));
-    assert!(rt; matches!(log[1], Answer::Asked(Err(Refusal::Unheard))));
+    assert_eq!(rt; log[0], Answer::Entered(Ok(0)));
+    assert_eq!(rt; log[1], Answer::Asked(Err(Refusal::Unheard)));
     assert!(rt; matches!(log[2], Answer::Judged(Ok(v)) if !v.holds && v.count == 0));
     assert!(rt;
         matches!(&log[3], Answer::Path(Ok(Some(DecidingPath::Ended { stem })))
             if actions_are(stem, &[1, 2, 3]))
     );
-    assert!(rt; matches!(log[4], Answer::Entered(Err(Refusal::Nameless))));
-    assert!(rt; matches!(log[5], Answer::Entered(Ok(1))));
+    assert_eq!(rt; log[4], Answer::Entered(Err(Refusal::Nameless)));
+    assert_eq!(rt; log[5], Answer::Entered(Ok(1)));
     assert!(rt; matches!(log[6], Answer::Judged(Ok(v)) if !v.holds && v.count == 0));
     assert!(rt;
         matches!(&log[7], Answer::Path(Ok(Some(DecidingPath::Looping { stem, cycle })))
             if actions_are(stem, &[1]) && actions_are(cycle, &[2, 3, 5]))
     );
-    assert!(rt; matches!(log[8], Answer::Entered(Ok(2))));
+    assert_eq!(rt; log[8], Answer::Entered(Ok(2)));
     assert!(rt; matches!(log[9], Answer::Judged(Ok(v)) if v.holds && v.share == 250));
-    assert!(rt; matches!(log[10], Answer::Asked(Ok(true))));
-    assert!(rt; matches!(log[11], Answer::Asked(Err(Refusal::Range))));
-    assert!(rt; matches!(log[12], Answer::Asked(Ok(false))));
-    assert!(rt; matches!(log[13], Answer::Path(Ok(None))));
-    assert!(rt; matches!(log[14], Answer::Judged(Err(Refusal::Unheard))));
+    assert_eq!(rt; log[10], Answer::Asked(Ok(true)));
+    assert_eq!(rt; log[11], Answer::Asked(Err(Refusal::Range)));
+    assert_eq!(rt; log[12], Answer::Asked(Ok(false)));
+    assert_eq!(rt; log[13], Answer::Path(Ok(None)));
+    assert_eq!(rt; log[14], Answer::Judged(Err(Refusal::Unheard)));
     Ok(())
 }
 
