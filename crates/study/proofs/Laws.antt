@@ -1,5 +1,5 @@
 -- What each call answers after a run.
-use Rattle.std.proofs.Common.{◌≡◌, ◌↔◌, ℕ, ◌+◌, ◌<◌, Bool, List, length, slice_index_or, Some, None, Ok, Err, is_some, IsSome, IsTrue, Option, Result, sym, refl, ap, ◌∙◌, subst, inl, inr, arith}
+use Rattle.std.proofs.Common.{◌≡◌, ◌↔◌, ℕ, ◌+◌, ◌<◌, Bool, List, length, Some, None, Ok, Err, is_some, IsSome, IsTrue, Option, Result, sym, refl, ap, ◌∙◌, subst, inl, inr, arith}
 use Rattle.std.proofs.lemmas.Bool.{false≢true}
 use Rattle.std.proofs.lemmas.List.{length-append, length_push}
 use Rattle.base.specs.declared.refusal.Refusal.{Refusal}
@@ -24,7 +24,7 @@ use Rattle.search.proofs.Formulas.{where_shown}
 use Rattle.paths.specs.Asking.{RightSheets, PathFound}
 use Rattle.study.specs.Laws.{Alike, EnterLaw, HasNoRoom, JudgeLaw, AskLaw, PathLaw, path_answer, room}
 use Rattle.study.specs.Runs.{Call, Run, OnlyFormulaOf, no_weight, PathTells}
-use Rattle.study.specs.Study.{PathCall, asked, said, nodes, formulas, Enters, Judges, Asks, FindsPath}
+use Rattle.study.specs.Study.{tariff, PathCall, asked, said, nodes, formulas, Enters, Judges, Asks, FindsPath}
 use Rattle.study.specs.declared.study.Study.{Study}
 use Rattle.study.specs.declared.verdict.Verdict.{Verdict}
 use Rattle.study.proofs.Runs.{Kept, kept}
@@ -152,9 +152,9 @@ module _ {W : Type 0} (q : PathCall W) (N M : Lts) (alike : Alike N M) (cs : Lis
 
   -- what is handed out, by right marks
   handed : (r : Found) → N.states ≡ M.states → RightSheets M (nodes st) n sh → PathFound (asked q N sh st) before after r
-      → HandedOutOf q.scale (λ a. slice_index_or q.tariffs a 0) M (formula_of (nodes st) n) q.state (path_in after.stem after.cycle r)
+      → HandedOutOf q.scale (tariff q) M (formula_of (nodes st) n) q.state (path_in after.stem after.cycle r)
   handed r same right found =
-      subst (λ (L : Lts). HandedOutOf q.scale (λ a. slice_index_or q.tariffs a 0) L (formula_of (nodes st) n) q.state (path_in after.stem after.cycle r)) (alike same)
+      subst (λ (L : Lts). HandedOutOf q.scale (tariff q) L (formula_of (nodes st) n) q.state (path_in after.stem after.cycle r)) (alike same)
       (found.path (right_by (alike same) right))
 
   pub path_law : (r : Result Found Refusal) → Run M cs st sh → FindsPath q N sh st before after r → PathLaw q M N.states cs (room before) (path_answer after r)
@@ -172,7 +172,7 @@ module _ {W : Type 0} (q : PathCall W) (N M : Lts) (alike : Alike N M) (cs : Lis
           the_formula M st sh cs n k e.1.0,
           (
             handed r same (k.marks n e.1) e.2.2,
-            has_one_of q.scale (λ a. slice_index_or q.tariffs a 0) M (formula_of (nodes st) n) q.state (path_in after.stem after.cycle r) (handed r same (k.marks n e.1) e.2.2),
+            has_one_of q.scale (tariff q) M (formula_of (nodes st) n) q.state (path_in after.stem after.cycle r) (handed r same (k.marks n e.1) e.2.2),
             where_shown M (formula_of (nodes st) n) q.state inside,
           ),
         ),
@@ -221,7 +221,7 @@ pub path_tells : {W : Type 0} (q : PathCall W) (M : Lts) (cs : List Call) (st : 
 path_tells q M cs st sh before after (Ok r) run e = (
   e.1,
   omega (arith, e.2.1.0, e.0.0),
-  λ right. unweighed q.scale (λ a. slice_index_or q.tariffs a 0) M (formula_of (nodes st) q.formula) q.state (path_in after.stem after.cycle r) (e.2.2.path right),
+  λ right. unweighed q.scale (tariff q) M (formula_of (nodes st) q.formula) q.state (path_in after.stem after.cycle r) (e.2.2.path right),
 )
 path_tells q M cs st sh before after (Err Short) run (inl e) = let k = kept run in absurd (e.0 (sym k.states_are, k.covers ∙ sym k.states_are))
 path_tells q M cs st sh before after (Err Short) run (inr e) = (e.1, elim e.2.0 [ inl x ↦ absurd (x (e.0.1 ∙ sym e.0.0)) | inr x ↦ omega (arith, e.0.0, x.1.0) ])

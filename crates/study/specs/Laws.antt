@@ -1,5 +1,5 @@
 -- THE LAW OVER RUNS: what each call answers after a list of calls, told from the list alone.
-use Rattle.std.specs.Prelude.{◌≡◌, ◌↔◌, ℕ, ◌+◌, ◌<◌, ◌≤◌, ◌⊎◌, Bool, List, Ok, Err, Option, Result, IsTrue, IsSome, length, min, slice_index_or}
+use Rattle.std.specs.Prelude.{◌≡◌, ◌↔◌, ℕ, ◌+◌, ◌<◌, ◌≤◌, ◌⊎◌, Bool, List, Ok, Err, Option, Result, IsTrue, IsSome, length, min}
 use Rattle.base.specs.declared.refusal.Refusal.{Refusal}
 use Rattle.base.specs.declared.refusal.Refusal.TheVariants.{Short, Range, Grammar, Nameless, Full, Unheard}
 use Rattle.meaning.specs.DecidingPaths.{DecidingPath, HandedOutOf, HasDecidingOf, HasToShow}
@@ -14,7 +14,7 @@ use Rattle.formula.specs.Vocabulary.{by_labels}
 use Rattle.search.specs.declared.found.Found.{Found}
 use Rattle.search.specs.Finding.{Held, path_in}
 use Rattle.study.specs.Runs.{Call, OnlyFormulaOf, FormulaOf, JudgedIn, entered_in, NodesIn}
-use Rattle.study.specs.Study.{PathCall, said}
+use Rattle.study.specs.Study.{PathCall, said, tariff}
 use Rattle.study.specs.declared.verdict.Verdict.{Verdict}
 
 -- there is room for the formula of a tree: not eight formulas yet, and no 49th node
@@ -84,7 +84,7 @@ path_answer after (Err e) = Err e
 -- formula holds or an A formula fails, leading NOTs set aside.
 abbrev pub HandsOut : {W : Type 0} → PathCall W → Lts → Formula → Option DecidingPath → Type 0
 HandsOut q M f p =
-    HandedOutOf q.scale (λ a. slice_index_or q.tariffs a 0) M f q.state p
+    HandedOutOf q.scale (tariff q) M f q.state p
     × (IsSome p ↔ HasDecidingOf M f q.state)
     × (HasDecidingOf M f q.state ↔ HasToShow M f q.state)
 

@@ -122,11 +122,15 @@ pub record PathCall (W : Type 0) : Type 0 where
 abbrev pub path_call : {W : Type 0} → Scale W → List ℕ → ℕ → ℕ → PathCall W
 path_call scale tariffs n s = record { scale = scale; tariffs = tariffs; formula = n; state = s }
 
--- the same as a question of the table and the sheets
+-- the tariff of an action
+abbrev pub tariff : {W : Type 0} → PathCall W → ℕ → ℕ
+tariff q a = slice_index_or q.tariffs a 0
+
+-- the call as a question of the table and the sheets
 abbrev pub asked : {W : Type 0} → PathCall W → Lts → Sheets → Study → Asked W
 asked q M sh st = record {
   scale = q.scale;
-  tariff = λ a. slice_index_or q.tariffs a 0;
+  tariff = tariff q;
   lts = M;
   sheets = sh;
   nodes = nodes st;

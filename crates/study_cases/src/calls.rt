@@ -5,38 +5,39 @@ use shelf::Shelf;
 use study::{Study, Verdict};
 
 // Room for the states of each model.
-pub const ROOM: usize = 6;
+pub(crate) const ROOM: usize = 6;
 
 // A step that no test finds.
-pub const BLANK: Step = Step {
+pub(crate) const BLANK: Step = Step {
     action: 63,
     state: 99,
 };
 
 // A path that was asked for: what was found, and the two lists.
 #[derive(Clone, Copy, PartialEq, Eq, Debug)]
-pub struct Walk {
-    pub found: Found,
-    pub stem: [Step; ROOM],
-    pub cycle: [Step; ROOM],
+pub(crate) struct Walk {
+    pub(crate) found: Found,
+    pub(crate) stem: [Step; ROOM],
+    pub(crate) cycle: [Step; ROOM],
 }
 
 // What the calls of one list answered.
 #[derive(Clone, Copy, PartialEq, Eq, Debug)]
-pub struct Seen {
-    pub first: Verdict,
-    pub second: Verdict,
-    pub again: Verdict,
-    pub first_on: [Option<bool>; ROOM],
-    pub second_on: [Option<bool>; ROOM],
-    pub airtime: Walk,
-    pub peak: Walk,
-    pub lasting: Walk,
-    pub refused: [Option<Refusal>; 8],
+pub(crate) struct Seen {
+    pub(crate) early: Early,
+    pub(crate) late: Late,
+    pub(crate) first: Verdict,
+    pub(crate) second: Verdict,
+    pub(crate) again: Verdict,
+    pub(crate) first_on: [Option<bool>; ROOM],
+    pub(crate) second_on: [Option<bool>; ROOM],
+    pub(crate) airtime: Walk,
+    pub(crate) peak: Walk,
+    pub(crate) lasting: Walk,
 }
 
 // The label list of tau and some names.
-pub fn labels(names: &[&str]) -> Result<Labels, Refusal> {
+pub(crate) fn labels(names: &[&str]) -> Result<Labels, Refusal> {
     let mut labels = Labels::new();
     for name in names {
         labels.add(Name::new(name.as_bytes()).ok_or(Refusal::Garbled)?)?;
@@ -79,9 +80,59 @@ fn ask_all<M: TransitionSystem, S: Shelf>(
     on
 }
 
+// What is refused before a formula 0 is judged.
+#[derive(Clone, Copy, PartialEq, Eq, Debug)]
+pub(crate) struct Early {
+    pub(crate) judged: Option<Refusal>,
+    pub(crate) no_formula: Option<Refusal>,
+    pub(crate) nameless: Option<Refusal>,
+    pub(crate) asked: Option<Refusal>,
+    pub(crate) shown: Option<Refusal>,
+}
+
+// And after that.
+#[derive(Clone, Copy, PartialEq, Eq, Debug)]
+pub(crate) struct Late {
+    pub(crate) asked_outside: Option<Refusal>,
+    pub(crate) shown_outside: Option<Refusal>,
+    pub(crate) too_short: Option<Refusal>,
+}
+
+// Enters a formula 0, with refusals before and after.
+fn begin<M: TransitionSystem, S: Shelf>(
+    study: &mut Study,
+    model: &M,
+    shelf: &mut S,
+    labels: &Labels,
+    text: &str,
+) -> Result<Early, Refusal> {
+    let mut work = [Entry::<Peak>::blank(); ROOM];
+    let judged = study.judge(model, shelf, 0).err();
+    let no_formula = study.enter(b"EX {", labels).err();
+    study.enter(text.as_bytes(), labels)?;
+    Ok(Early {
+        judged,
+        no_formula,
+        nameless: study.enter(b"EX {nobody}", labels).err(),
+        asked: study.ask(model, shelf, 0, 0).err(),
+        shown: find_walk(study, model, shelf, 0, 0, &[1; 64], &mut work).err(),
+    })
+}
+
+// What is refused of a formula 0 that is judged.
+fn refuse<M: TransitionSystem, S: Shelf>(study: &Study, model: &M, shelf: &S) -> Late {
+    let mut work = [Entry::<Peak>::blank(); ROOM];
+    let outside = model.states();
+    Late {
+        asked_outside: study.ask(model, shelf, 0, outside).err(),
+        shown_outside: find_walk(study, model, shelf, 0, outside, &[1; 64], &mut work).err(),
+        too_short: find_walk(study, model, shelf, 0, 0, &[1; 64], &mut work[..1]).err(),
+    }
+}
+
 // One list of calls: two formulas are entered, judged, judged again, asked at every state, and
 // shown by paths from state 0; with refusals in between.
-pub fn one_list<M: TransitionSystem, S: Shelf>(
+pub(crate) fn one_list<M: TransitionSystem, S: Shelf>(
     model: &M,
     shelf: &mut S,
     labels: &Labels,
@@ -90,31 +141,15 @@ pub fn one_list<M: TransitionSystem, S: Shelf>(
 ) -> Result<Seen, Refusal> {
     let mut by_airtime = [Entry::<Airtime>::blank(); ROOM];
     let mut by_peak = [Entry::<Peak>::blank(); ROOM];
-    let mut short = [Entry::<Peak>::blank(); 1];
     let mut study = Study::open(model, shelf)?;
-    let judged_early = study.judge(model, shelf, 0).err();
-    let no_formula = study.enter(b"EX {", labels).err();
-    study.enter(texts[0].as_bytes(), labels)?;
-    let nameless = study.enter(b"EX {nobody}", labels).err();
-    let asked_early = study.ask(model, shelf, 0, 0).err();
-    let shown_early = find_walk(&study, model, shelf, 0, 0, tariffs, &mut by_peak).err();
+    let early = begin(&mut study, model, shelf, labels, texts[0])?;
     let first = study.judge(model, shelf, 0)?;
     let number = study.enter(texts[1].as_bytes(), labels)?;
     let second = study.judge(model, shelf, number)?;
     let again = study.judge(model, shelf, 0)?;
-    let outside = study.ask(model, shelf, 0, model.states()).err();
-    let from_outside = find_walk(
-        &study,
-        model,
-        shelf,
-        0,
-        model.states(),
-        tariffs,
-        &mut by_peak,
-    )
-    .err();
-    let too_short = find_walk(&study, model, shelf, 0, 0, tariffs, &mut short).err();
     Ok(Seen {
+        early,
+        late: refuse(&study, model, shelf),
         first,
         second,
         again,
@@ -123,15 +158,5 @@ pub fn one_list<M: TransitionSystem, S: Shelf>(
         airtime: find_walk(&study, model, shelf, 0, 0, tariffs, &mut by_airtime)?,
         peak: find_walk(&study, model, shelf, 0, 0, tariffs, &mut by_peak)?,
         lasting: find_walk(&study, model, shelf, number, 0, tariffs, &mut by_airtime)?,
-        refused: [
-            judged_early,
-            no_formula,
-            nameless,
-            asked_early,
-            shown_early,
-            outside,
-            from_outside,
-            too_short,
-        ],
     })
 }

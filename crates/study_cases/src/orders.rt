@@ -41,60 +41,48 @@ fn actions_are(steps: &[Step], actions: &[u8]) -> bool {
         .eq(actions.iter().copied())
 }
 
+// An order to enter a text.
+fn enter<'a>(text: &'a [u8], labels: &'a Labels) -> Order<'a> {
+    Order::Enter { text, labels }
+}
+
+// An order to judge a formula.
+fn judge<'a>(formula: usize) -> Order<'a> {
+    Order::Judge { formula }
+}
+
+// An order to ask of a formula at a state.
+fn ask<'a>(formula: usize, state: usize) -> Order<'a> {
+    Order::Ask { formula, state }
+}
+
+// An order for a path of a formula from the start.
+fn path<'a>(formula: usize, tariffs: &'a [u16; 64]) -> Order<'a> {
+    Order::Path {
+        formula,
+        state: 0,
+        tariffs,
+    }
+}
+
 // The worked list of calls.
 fn worked_list<'a>(labels: &'a Labels, tariffs: &'a [u16; 64]) -> [Order<'a>; 15] {
     [
-        Order::Enter {
-            text: b"NOT EF {add} E[{NOT meas} U {add}]",
-            labels: labels,
-        },
-        Order::Ask {
-            formula: 0,
-            state: 0,
-        },
-        Order::Judge { formula: 0 },
-        Order::Path {
-            formula: 0,
-            state: 0,
-            tariffs: tariffs,
-        },
-        Order::Enter {
-            text: b"AX {meal}",
-            labels: labels,
-        },
-        Order::Enter {
-            text: b"AF {ack}",
-            labels: labels,
-        },
-        Order::Judge { formula: 1 },
-        Order::Path {
-            formula: 1,
-            state: 0,
-            tariffs: tariffs,
-        },
-        Order::Enter {
-            text: b"AX {meas}",
-            labels: labels,
-        },
-        Order::Judge { formula: 2 },
-        Order::Ask {
-            formula: 2,
-            state: 0,
-        },
-        Order::Ask {
-            formula: 2,
-            state: 4,
-        },
-        Order::Ask {
-            formula: 0,
-            state: 3,
-        },
-        Order::Path {
-            formula: 2,
-            state: 0,
-            tariffs: tariffs,
-        },
-        Order::Judge { formula: 3 },
+        enter(b"NOT EF {add} E[{NOT meas} U {add}]", labels),
+        ask(0, 0),
+        judge(0),
+        path(0, tariffs),
+        enter(b"AX {meal}", labels),
+        enter(b"AF {ack}", labels),
+        judge(1),
+        path(1, tariffs),
+        enter(b"AX {meas}", labels),
+        judge(2),
+        ask(2, 0),
+        ask(2, 4),
+        ask(0, 3),
+        path(2, tariffs),
+        judge(3),
     ]
 }
 
@@ -122,27 +110,27 @@ fn worked(rt: HostRuntime) -> Result<(), Fail> {
     let mut shelf = ColumnShelf::open(&mut columns, STATES);
     let log = carry_out(rt.alloc(), &model, &mut shelf, &mut lists, &orders)?;
     assert_eq!(rt; log.len(), orders.len());
-    assert!(rt; matches!(log[0], Answer::Entered(Ok(0))));
-    assert!(rt; matches!(log[1], Answer::Asked(Err(Refusal::Unheard))));
+    assert_eq!(rt; log[0], Answer::Entered(Ok(0)));
+    assert_eq!(rt; log[1], Answer::Asked(Err(Refusal::Unheard)));
     assert!(rt; matches!(log[2], Answer::Judged(Ok(v)) if !v.holds && v.count == 0));
     assert!(rt;
         matches!(&log[3], Answer::Path(Ok(Some(DecidingPath::Ended { stem })))
             if actions_are(stem, &[1, 2, 3]))
     );
-    assert!(rt; matches!(log[4], Answer::Entered(Err(Refusal::Nameless))));
-    assert!(rt; matches!(log[5], Answer::Entered(Ok(1))));
+    assert_eq!(rt; log[4], Answer::Entered(Err(Refusal::Nameless)));
+    assert_eq!(rt; log[5], Answer::Entered(Ok(1)));
     assert!(rt; matches!(log[6], Answer::Judged(Ok(v)) if !v.holds && v.count == 0));
     assert!(rt;
         matches!(&log[7], Answer::Path(Ok(Some(DecidingPath::Looping { stem, cycle })))
             if actions_are(stem, &[1]) && actions_are(cycle, &[2, 3, 5]))
     );
-    assert!(rt; matches!(log[8], Answer::Entered(Ok(2))));
+    assert_eq!(rt; log[8], Answer::Entered(Ok(2)));
     assert!(rt; matches!(log[9], Answer::Judged(Ok(v)) if v.holds && v.share == 250));
-    assert!(rt; matches!(log[10], Answer::Asked(Ok(true))));
-    assert!(rt; matches!(log[11], Answer::Asked(Err(Refusal::Range))));
-    assert!(rt; matches!(log[12], Answer::Asked(Ok(false))));
-    assert!(rt; matches!(log[13], Answer::Path(Ok(None))));
-    assert!(rt; matches!(log[14], Answer::Judged(Err(Refusal::Unheard))));
+    assert_eq!(rt; log[10], Answer::Asked(Ok(true)));
+    assert_eq!(rt; log[11], Answer::Asked(Err(Refusal::Range)));
+    assert_eq!(rt; log[12], Answer::Asked(Ok(false)));
+    assert_eq!(rt; log[13], Answer::Path(Ok(None)));
+    assert_eq!(rt; log[14], Answer::Judged(Err(Refusal::Unheard)));
     Ok(())
 }
 

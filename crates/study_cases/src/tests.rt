@@ -1,4 +1,4 @@
-use crate::calls::{BLANK, ROOM, Seen, Walk, labels, one_list};
+use crate::calls::{BLANK, Early, Late, ROOM, Seen, Walk, labels, one_list};
 use base::{ActionSet, Labels, Refusal};
 use model::{Cell, Grid, RetryCounter, Size, TransitionSystem, join};
 use search::{Found, Step};
@@ -9,17 +9,21 @@ use study::{Study, Verdict};
 // A row of bytes for each sheet.
 const BYTES: usize = 64;
 
-// What each list is refused.
-const REFUSED: [Option<Refusal>; 8] = [
-    Some(Refusal::Unheard),
-    Some(Refusal::Grammar),
-    Some(Refusal::Nameless),
-    Some(Refusal::Unheard),
-    Some(Refusal::Unheard),
-    Some(Refusal::Range),
-    Some(Refusal::Range),
-    Some(Refusal::Short),
-];
+// What each list is refused before its formula 0 is judged.
+const EARLY: Early = Early {
+    judged: Some(Refusal::Unheard),
+    no_formula: Some(Refusal::Grammar),
+    nameless: Some(Refusal::Nameless),
+    asked: Some(Refusal::Unheard),
+    shown: Some(Refusal::Unheard),
+};
+
+// And after that.
+const LATE: Late = Late {
+    asked_outside: Some(Refusal::Range),
+    shown_outside: Some(Refusal::Range),
+    too_short: Some(Refusal::Short),
+};
 
 // A cell with a step.
 fn step(action: u8, target: u16) -> Cell {
@@ -99,7 +103,7 @@ fn grid(rt: HostRuntime) -> Result<(), Fail> {
     tariffs[3] = 3;
     let [seen, again] = on_both(&model, &labels, ["EF {d}", "NOT AF {b}"], &tariffs)?;
     assert_eq!(rt; seen, again);
-    assert_eq!(rt; seen.refused, REFUSED);
+    assert_eq!(rt; (seen.early, seen.late), (EARLY, LATE));
     let all = Verdict {
         holds: true,
         count: 5,
@@ -149,7 +153,7 @@ fn retry_counter(rt: HostRuntime) -> Result<(), Fail> {
     let model = RetryCounter::new(3, 1, 2, 3)?;
     let [seen, again] = on_both(&model, &labels, ["EF {quit}", "AX {send}"], &[2; 64])?;
     assert_eq!(rt; seen, again);
-    assert_eq!(rt; seen.refused, REFUSED);
+    assert_eq!(rt; (seen.early, seen.late), (EARLY, LATE));
     assert_eq!(rt;
         (seen.first.holds, seen.first.count, seen.first.share),
         (true, 4, 1000)
@@ -185,7 +189,7 @@ fn joined(rt: HostRuntime) -> Result<(), Fail> {
     let texts = ["EF {ack}", "AG {NOT ack}"];
     let [seen, again] = on_both(&model, &labels, texts, &[1; 64])?;
     assert_eq!(rt; seen, again);
-    assert_eq!(rt; seen.refused, REFUSED);
+    assert_eq!(rt; (seen.early, seen.late), (EARLY, LATE));
     assert_eq!(rt;
         (seen.first.holds, seen.first.count, seen.first.total),
         (true, 4, 4)
