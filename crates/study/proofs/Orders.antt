@@ -1,22 +1,24 @@
 -- Orders that are carried out, one more at a time.
-use Rattle.std.proofs.Common.{◌≡◌, ℕ, ◌+◌, ◌<◌, ◌≤◌, List, [], ◌∷◌, ◌++◌, length, take, slice_index_or, Option, Result, sym, refl, ap, ◌∙◌, subst}
+use Rattle.std.proofs.Common.{◌≡◌, ℕ, ◌+◌, ◌<◌, ◌≤◌, Bool, Ok, Err, List, [], ◌∷◌, ◌++◌, length, take, slice_index_or, Option, Result, sym, refl, ap, ◌∙◌, subst}
 use Rattle.std.proofs.lemmas.List.{take_more, take_all}
 use Rattle.std.specs.Borrow.{Bor}
 use Rattle.base.specs.declared.refusal.Refusal.{Refusal}
+use Rattle.base.specs.declared.refusal.Refusal.TheVariants.{Short, Unheard}
 use Rattle.meaning.specs.DecidingPaths as deciding
 use Rattle.meaning.specs.Lts.{Lts}
 use Rattle.meaning.specs.Scales.{Scale}
 use Rattle.shelf.specs.Sheets.{Sheets}
-use Rattle.study.specs.Laws.{PathLaw}
+use Rattle.study.specs.Laws.{Alike, EnterLaw, JudgeLaw, AskLaw, PathLaw}
 use Rattle.study.specs.Orders.{path_said, with_call, calls_after, IsRight, AllRight, GoesOn, Spared}
-use Rattle.study.specs.Runs.{Call, path, Run}
-use Rattle.study.specs.Study.{path_call}
+use Rattle.study.specs.Runs.{Call, enter, judge, ask, path, Run}
+use Rattle.study.specs.Study.{path_call, Judges}
 use Rattle.study.specs.declared.order.Answer.{Answer}
 use Rattle.study.specs.declared.order.Answer.TheVariants as answer
 use Rattle.study.specs.declared.order.DecidingPath.{DecidingPath}
 use Rattle.study.specs.declared.order.Order.{Order}
 use Rattle.study.specs.declared.order.Order.TheVariants as order
 use Rattle.study.specs.declared.study.Study.{Study}
+use Rattle.study.specs.declared.verdict.Verdict.{Verdict}
 
 pub spared_on : {a b c : Sheets} → Spared a b → Spared b c → Spared a c
 spared_on p q = record { covers = q.covers ∙ p.covers; same = λ k s l. q.same k s l ∙ p.same k s l }
@@ -24,12 +26,41 @@ spared_on p q = record { covers = q.covers ∙ p.covers; same = λ k s l. q.same
 pub spared_none : (a : Sheets) → Spared a a
 spared_none a = record { covers = refl; same = λ k s l. refl }
 
+-- judging alters no sheet from 48 on
+pub spared_judge : {S : Type 0} (sheets : S → Sheets) (M : Lts) (n : ℕ) (st st' : Study) (shelf shelf' : S) (r : Result Verdict Refusal)
+    → Judges sheets M n st st' shelf shelf' r → Spared (sheets shelf) (sheets shelf')
+spared_judge sheets M n st st' shelf shelf' (Ok v) e = record { covers = e.marked.covers; same = e.spared }
+spared_judge sheets M n st st' shelf shelf' (Err Short) e = subst (λ (x : Sheets). Spared (sheets shelf) x) (sym (ap sheets e.2)) (spared_none (sheets shelf))
+spared_judge sheets M n st st' shelf shelf' (Err Unheard) e = subst (λ (x : Sheets). Spared (sheets shelf) x) (sym (ap sheets e.3)) (spared_none (sheets shelf))
+spared_judge sheets M n st st' shelf shelf' (Err x) e = absurd e
+
 module _ {W : Type 0} (scale : Scale W) (room : ℕ) (M : Lts) where
   abbrev Goes : Study → Sheets → List Order → List Answer → Study → Sheets → Type 0
   Goes = GoesOn scale room M
 
   abbrev All : List Call → List Order → List Answer → Type 0
   All = AllRight scale room M
+
+  pub goes_enter : (st st' : Study) (sh : Sheets) (o : Order) (text : Bor (List ℕ)) (labels : Bor (List (List ℕ))) (r : Result ℕ Refusal)
+      → o ≡ order.Enter text labels → ((N : Lts) (cs : List Call) (there : Sheets) → Run N cs st there → EnterLaw cs text.now labels.now r)
+      → ((N : Lts) (cs : List Call) (there : Sheets) → Run N cs st there → Run N (enter text.now labels.now r ∷ cs) st' there)
+      → Goes st sh (o ∷ []) (answer.Entered r ∷ []) st' sh
+  goes_enter st st' sh o text labels r e law run =
+      subst (λ (x : Order). Goes st sh (x ∷ []) (answer.Entered r ∷ []) st' sh) (sym e)
+      (record { right = λ cs h. (law M cs sh h, tt); runs = λ cs h. run M cs sh h })
+
+  pub goes_judge : (st st' : Study) (sh sh' : Sheets) (o : Order) (n : ℕ) (r : Result Verdict Refusal) → o ≡ order.Judge n
+      → ((N : Lts) (cs : List Call) → Alike M N → Run N cs st sh → JudgeLaw N M.states cs n r)
+      → ((cs : List Call) → Run M cs st sh → Run M (judge n r ∷ cs) st' sh') → Goes st sh (o ∷ []) (answer.Judged r ∷ []) st' sh'
+  goes_judge st st' sh sh' o n r e law run =
+      subst (λ (x : Order). Goes st sh (x ∷ []) (answer.Judged r ∷ []) st' sh') (sym e)
+      (record { right = λ cs h. (law M cs (λ _. refl) h, tt); runs = run })
+
+  pub goes_ask : (st : Study) (sh : Sheets) (o : Order) (n s : ℕ) (r : Result Bool Refusal) → o ≡ order.Ask n s
+      → ((N : Lts) (cs : List Call) → Run N cs st sh → AskLaw N M.states cs n s r)
+      → ((cs : List Call) → Run M cs st sh → Run M (ask n s r ∷ cs) st sh) → Goes st sh (o ∷ []) (answer.Asked r ∷ []) st sh
+  goes_ask st sh o n s r e law run =
+      subst (λ (x : Order). Goes st sh (x ∷ []) (answer.Asked r ∷ []) st sh) (sym e) (record { right = λ cs h. (law M cs h, tt); runs = run })
 
   -- a path, with its steps in the log
   pub goes_path : (st : Study) (sh : Sheets) (o : Order) (n s : ℕ) (tariffs : Bor (List ℕ)) (p : Result (Option DecidingPath) Refusal)
