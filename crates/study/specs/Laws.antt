@@ -1,7 +1,9 @@
 -- THE LAW OVER RUNS: what each call answers after a list of calls, told from the list alone.
-use Rattle.std.specs.Prelude.{◌≡◌, ◌↔◌, ℕ, ◌+◌, ◌<◌, ◌≤◌, ◌⊎◌, Bool, List, Ok, Err, Option, Result, IsTrue, IsSome, length, min}
+use Rattle.std.specs.Prelude.{◌≡◌, ◌↔◌, ℕ, ◌+◌, ◌<◌, ◌≤◌, ◌⊎◌, Bool, List, Ok, Err, Option, Result}
+use Rattle.std.specs.Prelude.{IsTrue, IsSome, length, min}
 use Rattle.base.specs.declared.refusal.Refusal.{Refusal}
-use Rattle.base.specs.declared.refusal.Refusal.TheVariants.{Short, Range, Grammar, Nameless, Full, Unheard}
+use Rattle.base.specs.declared.refusal.Refusal.TheVariants.{Short, Range, Grammar, Nameless, Full}
+use Rattle.base.specs.declared.refusal.Refusal.TheVariants.{Unheard}
 use Rattle.meaning.specs.DecidingPaths.{DecidingPath, HandedOutOf, HasDecidingOf, HasToShow}
 use Rattle.meaning.specs.Formula.{Formula, Holds}
 use Rattle.meaning.specs.Laws.{RightMarks}

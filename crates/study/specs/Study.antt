@@ -1,5 +1,6 @@
 -- What a study holds, and what each of its calls promises.
-use Rattle.std.specs.Prelude.{◌≡◌, ℕ, ◌<◌, ◌≤◌, ◌⊎◌, Bool, true, false, List, [], replicate, length, Ok, Err, Result, IsTrue, slice_set, slice_index_or}
+use Rattle.std.specs.Prelude.{◌≡◌, ℕ, ◌<◌, ◌≤◌, ◌⊎◌, Bool, true, false, List, [], replicate, length}
+use Rattle.std.specs.Prelude.{Ok, Err, Result, IsTrue, slice_set, slice_index_or}
 use Rattle.base.specs.declared.refusal.Refusal.{Refusal}
 use Rattle.base.specs.declared.refusal.Refusal.TheVariants.{Short, Range, Unheard}
 use Rattle.meaning.specs.Lts.{Lts}
