@@ -3,18 +3,18 @@
 
 mod asking;
 pub mod carry_out_error;
+pub mod carrying;
 mod entering;
 mod finding;
 mod judging;
 pub mod order;
 pub mod record;
-pub mod session;
 pub mod study;
 pub mod verdict;
 
 pub use carry_out_error::CarryOutError;
+pub use carrying::carry_out;
 pub use order::{Answer, DecidingPath, Order};
 pub use record::Record;
-pub use session::carry_out;
 pub use study::Study;
 pub use verdict::Verdict;
