@@ -29,5 +29,5 @@ pub use operator::{Operator, StepKind};
 pub use peak::Peak;
 pub use search::Search;
 pub use step::Step;
-pub use tail::{Counts, Part, Tail, tail_from};
+pub use tail::{Counts, StepList, Tail, tail_from};
 pub use weight::Weight;

@@ -2,7 +2,7 @@ use crate::by_actions::{ByActions, Kind};
 use crate::by_steps::BySteps;
 use base::{ActionSet, Refusal};
 use model::{Cell, Grid, Size};
-use search::{Airtime, Counts, Entry, Found, Lists, Part, Peak, Search, Step, Weight, tail_from};
+use search::{Airtime, Counts, Entry, Found, Lists, Peak, Search, Step, StepList, Weight, tail_from};
 use std::test::Fail;
 
 // Room for each list.
@@ -296,11 +296,11 @@ fn tails(rt: HostRuntime) -> Result<(), Fail> {
     let counts = Counts { stem: 1, cycle: 2 };
     let first = tail_from(&stem, &cycle, counts, 0)?;
     assert_eq!(rt; first.place, 0);
-    assert_eq!(rt; first.part, Part::Stem);
+    assert_eq!(rt; first.list, StepList::Stem);
     assert_eq!(rt; first.steps.len(), 1);
     let fifth = tail_from(&stem, &cycle, counts, 4)?;
     assert_eq!(rt; fifth.place, 1);
-    assert_eq!(rt; fifth.part, Part::Cycle);
+    assert_eq!(rt; fifth.list, StepList::Cycle);
     assert_eq!(rt; fifth.steps.len(), 1);
     let ended = tail_from(&stem, &cycle, Counts { stem: 1, cycle: 0 }, 7)?;
     assert_eq!(rt; ended.place, 1);
