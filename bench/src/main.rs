@@ -16,11 +16,11 @@ mod sweeps;
 mod text;
 
 use cell::Cell;
-use model::Grid;
+use model::{Grid, Model};
 use node::{ActionSet, Node, Operator};
 use ours::{By, Outcome, PathOutcome, Reading, Room, StudyOutcome, UNTOUCHED};
 use paths::{Airtime, BLANK, Peak, Question, Step, Weight};
-use shelf::{BitShelf, ColumnShelf, SHEETS};
+use shelf::{BitShelf, ColumnShelf, SHEETS, Shelf};
 use std::hint::black_box;
 use std::time::Duration;
 use text::Differ;
@@ -338,10 +338,17 @@ fn compare_paths(trials: usize, rounds: usize) {
 }
 
 /// What a study of a formula does, in plain Rust: marks it, counts, and looks for a deciding path from state 0.
-fn study_same(grid: &Grid, nodes: &[Node], tariffs: &[u16; 64], work: &mut [paths::same::Entry<Airtime>], room: &mut Room) -> StudyOutcome {
+fn study_same(
+    grid: &Grid,
+    shelf: &mut ColumnShelf,
+    nodes: &[Node],
+    tariffs: &[u16; 64],
+    work: &mut [paths::same::Entry<Airtime>],
+    stem: &mut [Step],
+    cycle: &mut [Step],
+) -> StudyOutcome {
     let states = grid.states();
-    let mut shelf = ColumnShelf::over(&mut room.columns, states);
-    sweeps::mark_all(grid, &mut shelf, nodes);
+    sweeps::mark_all(grid, shelf, nodes);
     let root = nodes.len() - 1;
     let count = (0..states).filter(|state| shelf.look(root, *state)).count();
     let mut core = root;
@@ -350,7 +357,7 @@ fn study_same(grid: &Grid, nodes: &[Node], tariffs: &[u16; 64], work: &mut [path
     }
     let found = match nodes[core].path() {
         None => PathOutcome { kind: 1, stem: 0, cycle: 0 },
-        Some(path) => Question { model: grid, shelf: &shelf, path, tariffs }.deciding(core, work, &mut room.stem, &mut room.cycle),
+        Some(path) => Question { model: grid, shelf: &*shelf, path, tariffs }.deciding(core, work, stem, cycle),
     };
     StudyOutcome { refusal: 0, holds: shelf.look(root, 0), count, share: 1000 * count / states, found }
 }
@@ -359,11 +366,12 @@ fn study_same(grid: &Grid, nodes: &[Node], tariffs: &[u16; 64], work: &mut [path
 fn study_rounds(cells: &[Cell], nodes: &[Node], tariffs: &[u16; 64], rounds: usize, room: &mut Room) -> StudyOutcome {
     let (states, slots) = sizes();
     let grid = Grid::over(cells, states, slots);
-    ColumnShelf::open(&mut room.columns, states);
+    let Room { columns, stem, cycle } = room;
+    let mut shelf = ColumnShelf::open(columns, states);
     let mut work = vec![paths::same::Entry::blank(); states];
     let mut outcome = StudyOutcome::default();
     for _ in 0..rounds {
-        outcome = study_same(black_box(&grid), nodes, tariffs, &mut work, room);
+        outcome = study_same(black_box(&grid), &mut shelf, nodes, tariffs, &mut work, stem, cycle);
     }
     outcome
 }
