@@ -16,11 +16,11 @@ mod sweeps;
 mod text;
 
 use cell::Cell;
-use model::Grid;
+use model::{Grid, Model};
 use node::{ActionSet, Node, Operator};
-use ours::{By, Outcome, PathOutcome, Reading, Room, UNTOUCHED};
+use ours::{By, Outcome, PathOutcome, Reading, Room, StudyOutcome, UNTOUCHED};
 use paths::{Airtime, BLANK, Peak, Question, Step, Weight};
-use shelf::{BitShelf, ColumnShelf, SHEETS};
+use shelf::{BitShelf, ColumnShelf, SHEETS, Shelf};
 use std::hint::black_box;
 use std::time::Duration;
 use text::Differ;
@@ -337,11 +337,88 @@ fn compare_paths(trials: usize, rounds: usize) {
     }
 }
 
-/// `reading`, `marking` or `paths` alone; `quick` has each contender do its work a few times only, as under a tool that counts instructions.
+/// What a study of a formula does, in plain Rust: marks it, counts, and looks for a deciding path from state 0.
+fn study_same(
+    grid: &Grid,
+    shelf: &mut ColumnShelf,
+    nodes: &[Node],
+    tariffs: &[u16; 64],
+    work: &mut [paths::same::Entry<Airtime>],
+    stem: &mut [Step],
+    cycle: &mut [Step],
+) -> StudyOutcome {
+    let states = grid.states();
+    sweeps::mark_all(grid, shelf, nodes);
+    let root = nodes.len() - 1;
+    let count = (0..states).filter(|state| shelf.look(root, *state)).count();
+    let mut core = root;
+    while let Node::Not(child) = nodes[core] {
+        core = child;
+    }
+    let found = match nodes[core].path() {
+        None => PathOutcome { kind: 1, stem: 0, cycle: 0 },
+        Some(path) => Question { model: grid, shelf: &*shelf, path, tariffs }.deciding(core, work, stem, cycle),
+    };
+    StudyOutcome { refusal: 0, holds: shelf.look(root, 0), count, share: 1000 * count / states, found }
+}
+
+#[inline(never)]
+fn study_rounds(cells: &[Cell], nodes: &[Node], tariffs: &[u16; 64], rounds: usize, room: &mut Room) -> StudyOutcome {
+    let (states, slots) = sizes();
+    let grid = Grid::over(cells, states, slots);
+    let Room { columns, stem, cycle } = room;
+    let mut shelf = ColumnShelf::open(columns, states);
+    let mut work = vec![paths::same::Entry::blank(); states];
+    let mut outcome = StudyOutcome::default();
+    for _ in 0..rounds {
+        outcome = study_same(black_box(&grid), &mut shelf, nodes, tariffs, &mut work, stem, cycle);
+    }
+    outcome
+}
+
+fn compare_study(trials: usize, rounds: usize) {
+    println!();
+    println!("| grid | formula | at the start | marked | path | ours | same way in Rust | ratio |");
+    println!("|---|---|---|---|---|---|---|---|");
+    let tariffs: [u16; 64] = std::array::from_fn(|action| 1 + action as u16);
+    let states = grids::STATES;
+    let fresh = || Room { columns: vec![0; states], stem: vec![BLANK; states], cycle: vec![BLANK; states] };
+    for (grid, cells, formulas) in grids::all() {
+        for (formula, nodes) in formulas {
+            let (mut our_room, mut room) = (fresh(), fresh());
+            let outcome = ours::study(formula, &cells, states, grids::SLOTS, &tariffs, 2, &mut our_room);
+            assert_eq!(outcome, study_rounds(&cells, &nodes, &tariffs, 2, &mut room), "{grid} {formula}");
+            assert!(our_room.columns == room.columns && our_room.stem == room.stem && our_room.cycle == room.cycle, "{grid} {formula}");
+            let t = times(
+                trials,
+                rounds,
+                &mut [
+                    &mut |rounds| _ = ours::study(formula, &cells, states, grids::SLOTS, &tariffs, rounds, &mut our_room),
+                    &mut |rounds| _ = black_box(study_rounds(&cells, &nodes, &tariffs, rounds, &mut room)),
+                ],
+            );
+            let path = match outcome.found {
+                PathOutcome { kind: 2, stem, .. } => format!("{stem} steps"),
+                PathOutcome { kind: 3, stem, cycle } => format!("{stem} and a cycle of {cycle}"),
+                _ => "none".to_string(),
+            };
+            println!(
+                "| {grid} | {formula} | {} | {} | {path} | {} | {} | **{}** |",
+                if outcome.holds { "holds" } else { "fails" },
+                outcome.count,
+                milliseconds(t[0]),
+                milliseconds(t[1]),
+                ratio(t[0], t[1]),
+            );
+        }
+    }
+}
+
+/// `reading`, `marking`, `paths` or `study` alone; `quick` has each contender do its work a few times only, as under a tool that counts instructions.
 fn run() {
     let words: Vec<String> = std::env::args().skip(1).collect();
     let has = |word: &str| words.iter().any(|given| given == word);
-    let all = !["reading", "marking", "paths"].into_iter().any(has);
+    let all = !["reading", "marking", "paths", "study"].into_iter().any(has);
     let (trials, rounds) = if has("quick") { (1, 1) } else { (15, 3) };
     if all || has("reading") {
         agree_on_edges();
@@ -352,6 +429,9 @@ fn run() {
     }
     if all || has("paths") {
         compare_paths(trials, rounds);
+    }
+    if all || has("study") {
+        compare_study(trials, rounds);
     }
 }
 

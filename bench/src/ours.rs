@@ -22,6 +22,17 @@ pub struct PathOutcome {
     pub cycle: usize,
 }
 
+/// The number of the refusal, or 0; the verdict; and what was found.
+#[repr(C)]
+#[derive(Default, Debug, PartialEq, Eq)]
+pub struct StudyOutcome {
+    pub refusal: u8,
+    pub holds: bool,
+    pub count: usize,
+    pub share: usize,
+    pub found: PathOutcome,
+}
+
 unsafe extern "C" {
     fn neqoylla_read(
         text: *const u8,
@@ -93,6 +104,24 @@ unsafe extern "C" {
         cycle: *mut Step,
         cycle_len: usize,
         outcome: *mut PathOutcome,
+    );
+
+    fn neqoylla_study(
+        text: *const u8,
+        text_len: usize,
+        cells: *const Cell,
+        cells_len: usize,
+        states: usize,
+        slots: usize,
+        tariffs: *const [u16; 64],
+        rounds: usize,
+        columns: *mut u64,
+        columns_len: usize,
+        stem: *mut Step,
+        stem_len: usize,
+        cycle: *mut Step,
+        cycle_len: usize,
+        outcome: *mut StudyOutcome,
     );
 }
 
@@ -182,6 +211,31 @@ pub fn find_path(by: By, formula: &str, cells: &[Cell], states: usize, slots: us
     let mut outcome = PathOutcome::default();
     unsafe {
         call(
+            formula.as_ptr(),
+            formula.len(),
+            cells.as_ptr(),
+            cells.len(),
+            states,
+            slots,
+            tariffs,
+            rounds,
+            room.columns.as_mut_ptr(),
+            room.columns.len(),
+            room.stem.as_mut_ptr(),
+            room.stem.len(),
+            room.cycle.as_mut_ptr(),
+            room.cycle.len(),
+            &mut outcome,
+        )
+    };
+    outcome
+}
+
+/// Enters a formula into a study, judges it, and asks for a deciding path from state 0 by airtime.
+pub fn study(formula: &str, cells: &[Cell], states: usize, slots: usize, tariffs: &[u16; 64], rounds: usize, room: &mut Room) -> StudyOutcome {
+    let mut outcome = StudyOutcome::default();
+    unsafe {
+        neqoylla_study(
             formula.as_ptr(),
             formula.len(),
             cells.as_ptr(),

@@ -1,3 +1,4 @@
 pub mod Asking
 pub mod Marks
 pub mod Reading
+pub mod Studying

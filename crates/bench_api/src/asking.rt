@@ -14,7 +14,7 @@ use search::{Airtime, Entry, Found, Lists, Peak, Step, Weight, refusal};
 use shelf::{ColumnShelf, Shelf};
 
 // No model has more states.
-const MOST_STATES: usize = 65_536;
+pub(crate) const MOST_STATES: usize = 65_536;
 
 /// What was found: 0 for a refusal, 1 for nothing, 2 for a path that ends, 3 for one with a cycle;
 /// and how many steps stand in the two lists. A number for what it is, since C has no such enum.
@@ -27,7 +27,7 @@ pub struct PathOutcome {
 }
 
 // What is told of what was found.
-fn outcome_of(found: Option<Found>) -> PathOutcome
+pub(crate) fn outcome_of(found: Option<Found>) -> PathOutcome
     ensures { result ≡ told found }
 {
     let (kind, stem, cycle) = match found {

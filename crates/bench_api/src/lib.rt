@@ -5,6 +5,7 @@
 pub mod asking;
 pub mod marks;
 pub mod reading;
+pub mod studying;
 
 pub use marks::{neqoylla_mark_bits, neqoylla_mark_columns};
 pub use reading::{Outcome, neqoylla_read};

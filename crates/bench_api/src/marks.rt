@@ -19,7 +19,7 @@ fn name(text: &[u8]) -> Result<Name, Refusal>
 }
 
 // The names of the actions: a, b and c are 1, 2 and 3.
-fn actions() -> Result<Labels, Refusal>
+pub(crate) fn actions() -> Result<Labels, Refusal>
     ensures { IsOkAnd result (λ l. l ≡ letters) }
 {
     Labels::from_names(&[name(b"a")?, name(b"b")?, name(b"c")?])
