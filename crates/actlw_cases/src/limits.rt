@@ -152,8 +152,8 @@ fn show_lengths(rt: &HostRuntime) -> Result<()> {
     )
 }
 
-// As many formulas and nodes as there may be.
-fn show_tables(rt: &HostRuntime) -> Result<()> {
+// As many formulas, and as many nodes in one formula, as there may be.
+fn show_formulas(rt: &HostRuntime) -> Result<()> {
     let heap = rt.alloc();
     let mut lines = times(heap, "EX {a}\n", 8)?;
     show_parts(rt, "eight formulas", ONE, &lines)?;
@@ -166,27 +166,22 @@ fn show_tables(rt: &HostRuntime) -> Result<()> {
     show_parts(rt, "a formula of 48 nodes, and one more node", ONE, &lines)?;
     let mut lines = times(heap, "NOT ", 47)?;
     lines.push_str("EX {a}\nEX {a}\n")?;
-    show_parts(rt, "a formula of 49 nodes, and one of two", ONE, &lines)?;
-    let six = "E[{a} U {a} TRUE AND TRUE]\n";
-    show_parts(
-        rt,
-        "eight formulas of 40 nodes in all",
-        ONE,
-        &times(heap, six, 8)?,
-    )?;
-    let seven = "NOT E[{a} U {a} TRUE AND TRUE]\n";
-    show_parts(
-        rt,
-        "eight formulas of 48 nodes in all",
-        ONE,
-        &times(heap, seven, 8)?,
-    )?;
-    let eight = "NOT NOT E[{a} U {a} TRUE AND TRUE]\n";
+    show_parts(rt, "a formula of 49 nodes, and one of two", ONE, &lines)
+}
+
+// As many nodes in eight formulas as there may be.
+fn show_nodes(rt: &HostRuntime) -> Result<()> {
+    let heap = rt.alloc();
+    let five = times(heap, "E[{a} U {a} TRUE AND TRUE]\n", 8)?;
+    show_parts(rt, "eight formulas of 40 nodes in all", ONE, &five)?;
+    let six = times(heap, "NOT E[{a} U {a} TRUE AND TRUE]\n", 8)?;
+    show_parts(rt, "eight formulas of 48 nodes in all", ONE, &six)?;
+    let seven = times(heap, "NOT NOT E[{a} U {a} TRUE AND TRUE]\n", 8)?;
     show_parts(
         rt,
         "six formulas of 42 nodes, and two that find no room",
         ONE,
-        &times(heap, eight, 8)?,
+        &seven,
     )
 }
 
@@ -194,5 +189,6 @@ fn show_tables(rt: &HostRuntime) -> Result<()> {
 pub(crate) fn show_all(rt: &HostRuntime) -> Result<()> {
     show_models(rt)?;
     show_lengths(rt)?;
-    show_tables(rt)
+    show_formulas(rt)?;
+    show_nodes(rt)
 }
