@@ -53,6 +53,7 @@ module _ (M : Lts) (names : List (List ℕ)) where
         from_start room p before after
         (subst (λ (z : ℕ). PathLaw (path_call a tariffs n z) M M.states cs room (Ok p)) is law)
         (subst (λ (z : ℕ). Run M (path n z tariffs (Ok p) ∷ cs) st sh) is run) e
+
     -- the path is not refused
     not_refused : (room : ℕ) (e : Refusal) → M.states ≤ room → PathLaw (path_call a tariffs n M.start) M M.states cs room (Err e) → ⊥
     not_refused room Short l (inl h) = h refl

@@ -96,18 +96,22 @@ module _ (M N : Lts) (same : Same M N) (f : Formula) where
 
 module _ (M N : Lts) (same : Same M N) (names : List (List ℕ)) where
   judged_one : (f : Formula) (n : ℕ) (x y : Item) → Judged M f n x → Judged N f n y → Alike x y
-  judged_one f n _ _ (by_meaning {v = v} {p = p} a b) (by_meaning {v = w} {p = q} c d) =
-      (refl, verdict_one M N same f v w a c,
-      both_or_none by_airtime one_each M N same f p q b (subst (λ (s : ℕ). HandedOutOf by_airtime one_each N f s q) (sym same.start) d))
+  judged_one f n _ _ (by_meaning {v = v} {p = p} a b) (by_meaning {v = w} {p = q} c d) = (
+    refl,
+    verdict_one M N same f v w a c,
+    both_or_none by_airtime one_each M N same f p q b (subst (λ (s : ℕ). HandedOutOf by_airtime one_each N f s q) (sym same.start) d),
+  )
 
   answered_one : (f n : ℕ) (text : List ℕ) {f1 n1 f2 n2 : ℕ} {x y : Item} → Answered M names f n text f1 n1 x → Answered N names f n text f2 n2 y → (f2 ≡ f1) × (n2 ≡ n1) × Alike x y
   answered_one f n text (listing.Answered.refused a) (listing.Answered.refused b) = (refl, refl, refused_one names f n text a b)
   answered_one f n text (listing.Answered.refused a) (listing.judged r v) = absurd (refused_or_read names f n text a r)
   answered_one f n text (listing.judged r v) (listing.Answered.refused b) = absurd (refused_or_read names f n text b r)
   answered_one f n text (listing.judged {t = t} {x = x} r v) (listing.judged {t = u} {x = y} s w) =
-      let k : u ≡ t = tree_one s.is r.is in
-      (refl, ap (λ z. n + size z) k,
-      judged_one (by_names (by_labels names) t) f x y v (subst (λ (z : Tree). Judged N (by_names (by_labels names) z) f y) k w))
+      let k : u ≡ t = tree_one s.is r.is in (
+        refl,
+        ap (λ z. n + size z) k,
+        judged_one (by_names (by_labels names) t) f x y v (subst (λ (z : Tree). Judged N (by_names (by_labels names) z) f y) k w),
+      )
 
   all_one : {f n : ℕ} {lines : List (List ℕ)} {xs ys : List Item} → AllAnswered M names f n lines xs → AllAnswered N names f n lines ys → AllAlike xs ys
   all_one none none = tt

@@ -27,11 +27,13 @@ module _ {V W : Type 0} (a : Scale V) (b : Scale W) (f : V → W) (told : ToldBy
 
   module _ (M : Lts) (Pass Last : Kind) (s : ℕ) where
     lightest : (w : List Step) → Lightest (below a) a.join tariff a.start M Pass Last s w → Lightest (below b) b.join tariff b.start M Pass Last s w
-    lightest w h =
-        (h.0, λ v k.
-        sym (ap (λ z. b.at_most z (weigh (below b) b.join tariff b.start v)) (from_start w))
-        ∙ sym (ap (λ z. b.at_most (f (weigh (below a) a.join tariff a.start w)) z) (from_start v))
-        ∙ sym (told.at_most _ _) ∙ h.1 v k)
+    lightest w h = (
+      h.0,
+      λ v k.
+          sym (ap (λ z. b.at_most z (weigh (below b) b.join tariff b.start v)) (from_start w))
+          ∙ sym (ap (λ z. b.at_most (f (weigh (below a) a.join tariff a.start w)) z) (from_start v))
+          ∙ sym (told.at_most _ _) ∙ h.1 v k,
+    )
 
     lightest_one : (p : DecidingPath) → LightestOne a tariff M Pass Last s p → LightestOne b tariff M Pass Last s p
     lightest_one (ended v) h = lightest v h

@@ -2,7 +2,9 @@ use crate::by_actions::{ByActions, Kind};
 use crate::by_steps::BySteps;
 use base::{ActionSet, Refusal};
 use model::{Cell, Grid, Size};
-use search::{Airtime, Counts, Entry, Found, Lists, Peak, Search, Step, StepList, Weight, tail_from};
+use search::{
+    Airtime, Counts, Entry, Found, Lists, Peak, Search, Step, StepList, Weight, tail_from,
+};
 use std::test::Fail;
 
 // Room for each list.

@@ -11,5 +11,5 @@ returns g c =
     c.take.ensures.inner c.take.ensures.limit c.new-input.ensures.items c.deref.ensures.value c.in_ok-read_to_end.ensures.bytes in
     on_ok _ _ c.write_all.result
     (λ a. printed (g.R.Read.remaining c.args.reader) c.deref.result.now c.in_ok-out.out.items before after read c.in_ok-out.ensures
-        (subst (λ (x : List ℕ). Appends before after x) c.deref-2.ensures.value a))
+    (subst (λ (x : List ℕ). Appends before after x) c.deref-2.ensures.value a))
     c.write_all.ensures.bytes
