@@ -414,12 +414,19 @@ fn compare_study(trials: usize, rounds: usize) {
     }
 }
 
-/// `reading`, `marking`, `paths` or `study` alone; `quick` has each contender do its work a few times only, as under a tool that counts instructions.
+/// `reading`, `marking`, `paths` or `study` alone; `quick` has each contender do its work a few times only, as under a tool that counts instructions;
+/// `long` has more trials, for a machine that is not quiet.
 fn run() {
     let words: Vec<String> = std::env::args().skip(1).collect();
     let has = |word: &str| words.iter().any(|given| given == word);
     let all = !["reading", "marking", "paths", "study"].into_iter().any(has);
-    let (trials, rounds) = if has("quick") { (1, 1) } else { (15, 3) };
+    let (trials, rounds) = if has("quick") {
+        (1, 1)
+    } else if has("long") {
+        (60, 3)
+    } else {
+        (15, 3)
+    };
     if all || has("reading") {
         agree_on_edges();
         compare_reading(trials, rounds);

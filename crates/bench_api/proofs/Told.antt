@@ -10,14 +10,14 @@ use Rattle.model.specs.declared.cell.Cell.{Cell}
 use Rattle.model.specs.Grids.{GridOver}
 use Rattle.search.specs.declared.found.Found.{Found}
 use Rattle.search.specs.Finding.{Held, TooShort, path_in}
-use Rattle.study.specs.Laws.{EnterLaw, JudgeLaw, PathLaw, HandsOut, path_answer, room}
+use Rattle.study.specs.Laws.{JudgeLaw, PathLaw, HandsOut, path_answer, room}
 use Rattle.study.specs.Runs.{Call, enter, judge, FormulaOf, Reads}
 use Rattle.study.specs.Study.{path_call, Fits, Opens, Judges, FindsPath}
 use Rattle.study.specs.declared.study.Study.{Study}
 use Rattle.study.specs.declared.verdict.Verdict.{Verdict}
 use Rattle.bench_api.specs.declared.studying.Said.{Said}
 use Rattle.bench_api.specs.Marks.{letters}
-use Rattle.bench_api.specs.Studying.{Studied, Unstudied, not_opened, not_entered, few_entries, Studies, NoStudy, few_memory, no_formula, few_steps, StudyAnswer}
+use Rattle.bench_api.specs.Studying.{Unstudied, not_opened, not_entered, few_entries, Studies, NoStudy, few_memory, no_formula, few_steps, StudyAnswer}
 
 module _ (M : Lts) (text : List ℕ) (labels : List (List ℕ)) where
   abbrev entered : ℕ → List Call

@@ -13,8 +13,8 @@ use search::{Airtime, Entry, Found, Lists, Step, Weight};
 use shelf::{ColumnShelf, Shelf};
 use study::{Study, Verdict};
 
-/// What came of a study: the number of the refusal, or 0; whether the formula holds at the start, at
-/// how many states, and the share in thousandths; and what was found. A number for the refusal,
+/// What came of a study: the number of the refusal, or 0; whether the formula holds at the start,
+/// at how many states, and the share in thousandths; and what was found. A number for the refusal,
 /// since C has no Result.
 #[repr(C)]
 #[derive(Clone, Copy)]
@@ -140,8 +140,8 @@ fn study_grid<W: Weight>(
     study_rounds(&grid, &mut shelf, text, &labels, tariffs, rounds, lists)
 }
 
-/// Studies a formula `rounds` times, and at least once, over a grid over the cells with start 0, for
-/// a caller outside: each round opens a study, enters the formula, judges it, and asks for a
+/// Studies a formula `rounds` times, and at least once, over a grid over the cells with start 0,
+/// for a caller outside: each round opens a study, enters the formula, judges it, and asks for a
 /// deciding path from state 0 by airtime. The text may use the names tau, a, b and c; there is a
 /// tariff for each action; the columns are for a shelf of the grid's states, and what they hold
 /// afterwards is not said. The verdict and what was found stand in the outcome, and the path in the
