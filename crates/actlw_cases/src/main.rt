@@ -1,6 +1,6 @@
 // Prints the listings of a table of inputs: of the examples, of models and formulas that are
-// refused, of each kind of path, and of inputs at each limit and one past it. A line with two equals
-// signs says what the input is.
+// refused, of each kind of path, and of inputs at each limit and one past it. A line with two
+// equals signs says what the input is.
 #![tactic(auto)]
 
 mod examples;
