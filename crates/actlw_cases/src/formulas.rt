@@ -2,6 +2,26 @@
 use crate::Case;
 use crate::examples::UPLOAD;
 
+// No line of these is a formula.
+const NO_FORMULAS: &str = "AF {ack
+af {ack}
+TRUE FALSE
+TRUE AND
+E[TRUE U TRUE
+U
+{ack}
+EX {}
+ack
+!
+";
+
+// What tells how closely NOT, AND, OR and the operators bind.
+const BINDING: &str = "NOT FALSE AND FALSE
+TRUE OR FALSE AND FALSE
+NOT (TRUE OR FALSE)
+EX {meas} FALSE OR TRUE
+";
+
 /// What becomes of lines.
 pub(crate) const CASES: [Case; 13] = [
     Case {
@@ -27,7 +47,7 @@ pub(crate) const CASES: [Case; 13] = [
     Case {
         title: "lines that are no formula",
         model: UPLOAD,
-        formulas: "AF {ack\naf {ack}\nTRUE FALSE\nTRUE AND\nE[TRUE U TRUE\nU\n{ack}\nEX {}\nack\n!\n",
+        formulas: NO_FORMULAS,
     },
     Case {
         title: "a tab, a byte 13, a byte 0 and a letter past 127",
@@ -62,7 +82,7 @@ pub(crate) const CASES: [Case; 13] = [
     Case {
         title: "how NOT, AND and OR bind",
         model: UPLOAD,
-        formulas: "NOT FALSE AND FALSE\nTRUE OR FALSE AND FALSE\nNOT (TRUE OR FALSE)\nEX {meas} FALSE OR TRUE\n",
+        formulas: BINDING,
     },
     Case {
         title: "one and two of three states",

@@ -1,6 +1,6 @@
 // Prints the listings of a table of inputs: of the examples, of models and formulas that are
-// refused, of each kind of path, and of inputs at each limit and one past it. A line with two equals
-// signs says what the input is.
+// refused, of each kind of path, and of inputs at each limit and one past it. A line with two
+// equals signs says what the input is.
 #![tactic(auto)]
 
 mod examples;
@@ -10,7 +10,7 @@ mod models;
 mod paths;
 
 use anyhow::Result;
-use listing::listing;
+use listing::{listing, run};
 
 // An input by its two parts: the text of a model, and the lines of formulas after it.
 #[derive(Clone, Copy, PartialEq, Eq, Debug)]
@@ -20,11 +20,16 @@ struct Case {
     formulas: &'static str,
 }
 
-// Prints the listing of an input.
+// Prints the listing of an input. Reading the input and writing its listing is to give the same.
 fn show(rt: &HostRuntime, title: &str, input: &str) -> Result<()> {
     println!(rt; "== {title}")?;
     let out = listing(rt.alloc(), input.as_bytes())?;
     rt.print(str::from_utf8(&out)?)?;
+    let mut written = Vec::new(rt.alloc());
+    run(rt.alloc(), input.as_bytes(), &mut written)?;
+    if written != out {
+        println!(rt; "another listing was written")?;
+    }
     Ok(())
 }
 

@@ -8,6 +8,25 @@ const ROUND: &str = "des (0,2,2)\n(0,\"a\",1)\n(1,\"b\",0)\n";
 const LATER: &str =
     "des (2,5,4)\n(0,\"a\",1)\n(1,\"b\",0)\n(2,\"c\",3)\n(3,\"d\",1)\n(3,\"e\",2)\n";
 
+// Several ways to a step by b.
+const WAYS: &str = "des (0,6,5)
+(0,\"a\",1)
+(1,\"a\",2)
+(2,\"b\",4)
+(0,\"a\",3)
+(3,\"a\",1)
+(0,\"c\",2)
+";
+
+// Formulas of the kinds that have no path.
+const WITHOUT_PATHS: &str = "TRUE
+FALSE
+NOT TRUE
+EX {a} AND EX {a}
+EX {b} OR EX {a}
+NOT (EX {a} OR TRUE)
+";
+
 /// What is shown.
 pub(crate) const CASES: [Case; 13] = [
     Case {
@@ -52,7 +71,7 @@ pub(crate) const CASES: [Case; 13] = [
     },
     Case {
         title: "the fewest steps of several ways",
-        model: "des (0,6,5)\n(0,\"a\",1)\n(1,\"a\",2)\n(2,\"b\",4)\n(0,\"a\",3)\n(3,\"a\",1)\n(0,\"c\",2)\n",
+        model: WAYS,
         formulas: "EF {b}\nE[{a} U {b}]\nAG {NOT b}\n",
     },
     Case {
@@ -63,7 +82,7 @@ pub(crate) const CASES: [Case; 13] = [
     Case {
         title: "formulas that no path shows",
         model: ROUND,
-        formulas: "TRUE\nFALSE\nNOT TRUE\nEX {a} AND EX {a}\nEX {b} OR EX {a}\nNOT (EX {a} OR TRUE)\n",
+        formulas: WITHOUT_PATHS,
     },
     Case {
         title: "E formulas that fail, and A formulas that hold",

@@ -1,5 +1,5 @@
 -- From what reading the front of an input promises to the model of a listing.
-use Rattle.std.proofs.Common.{◌≡◌, ℕ, ◌*◌, ◌<◌, ◌≤◌, List, [], ◌∷◌, ◌++◌, length, take, drop, None, sym, refl, ap, ◌∙◌, subst, ⊎_elim, arith}
+use Rattle.std.proofs.Common.{◌≡◌, ℕ, ◌≤◌, List, [], ◌∷◌, ◌++◌, length, take, drop, sym, ap, ◌∙◌, subst, ⊎_elim, arith}
 use Rattle.std.proofs.lemmas.Bool.{cases_lt}
 use Rattle.std.proofs.lemmas.List.{length-take, append-nil}
 use Rattle.base.specs.declared.refusal.Refusal.{Refusal}
@@ -13,12 +13,11 @@ use Rattle.aut.specs.Front.{FrontRefused, FrontTaken}
 use Rattle.aut.specs.Front as front
 use Rattle.aut.specs.Reading.{RightSize, HasRoom, TextRefused}
 use Rattle.aut.specs.Reading as reading
-use Rattle.listing.specs.Lines.{lines_of}
 use Rattle.listing.specs.Listing.{refusal, text_of, item_text, Said, read, Listing}
 use Rattle.listing.specs.Listing as listing
 use Rattle.listing.specs.Models.{tau_alone, ModelRefused, ModelRead}
 use Rattle.listing.specs.Models as models
-use Rattle.listing.specs.Steps.{LinesDone, GridListed}
+use Rattle.listing.specs.Steps.{GridListed}
 
 pub over_size : (M : Lts) (cells : List Cell) (h : Header) (size : Size) → size ≡ record { states = h.states; slots = 8 }
     → GridOver M cells size.states size.slots h.start → GridOver M cells h.states 8 h.start

@@ -1,5 +1,5 @@
 -- From the law of a study to what is said of a line.
-use Rattle.std.proofs.Common.{◌≡◌, ℕ, suc, ◌+◌, ◌<◌, ◌≤◌, List, [], ◌∷◌, ◌++◌, append_assoc, Some, None, Ok, Err, OnOk, Option, Result, inl, inr, sym, refl, ap, ◌∙◌, subst, ⊎_elim, arith}
+use Rattle.std.proofs.Common.{◌≡◌, ℕ, suc, ◌+◌, ◌<◌, ◌≤◌, List, [], ◌∷◌, ◌++◌, append_assoc, Ok, Err, OnOk, Option, Result, inl, inr, sym, refl, ap, ◌∙◌, subst, ⊎_elim, arith}
 use Rattle.base.specs.declared.refusal.Refusal.{Refusal}
 use Rattle.base.specs.declared.refusal.Refusal.TheVariants.{Short, Garbled, Range, Crowded, Grammar, Nameless, Full, Unheard, Silent, TooBig}
 use Rattle.meaning.specs.DecidingPaths.{DecidingPath, HandedOutOf}
@@ -7,14 +7,13 @@ use Rattle.meaning.specs.Formula.{Formula}
 use Rattle.meaning.specs.Lts.{Lts}
 use Rattle.meaning.specs.Scales.{Scale}
 use Rattle.shelf.specs.Sheets.{Sheets}
-use Rattle.formula.specs.Entering.{IsFormula}
 use Rattle.formula.specs.Formulas.{by_names, size}
 use Rattle.formula.specs.Grammar.{Parses}
 use Rattle.formula.specs.Trees.{Tree}
 use Rattle.formula.specs.Vocabulary.{by_labels}
 use Rattle.formula.proofs.Readings as readings
 use Rattle.study.specs.Laws.{EnterLaw, JudgeLaw, PathLaw}
-use Rattle.study.specs.Runs.{Call, Run, enter, judge, path, FormulaOf, OnlyFormulaOf, JudgedIn, entered_in, NodesIn}
+use Rattle.study.specs.Runs.{Call, Run, enter, judge, path, FormulaOf, JudgedIn, entered_in, NodesIn}
 use Rattle.study.specs.Study.{path_call, said}
 use Rattle.study.specs.declared.study.Study.{Study}
 use Rattle.study.specs.declared.verdict.Verdict.{Verdict}

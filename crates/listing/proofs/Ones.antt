@@ -1,26 +1,24 @@
 -- An input has one listing at most, but for the choice among its paths.
-use Rattle.std.proofs.Common.{◌≡◌, ℕ, zero, suc, ◌+◌, ◌*◌, ◌/◌, ◌<◌, ◌≤◌, ◌⊎◌, Bool, ◌&&◌, List, [], ◌∷◌, length, take, drop, Contains, IsSome, Some, None, Option, sym, refl, ap, ◌∙◌, subst, ⊎_elim, arith}
+use Rattle.std.proofs.Common.{◌≡◌, ℕ, zero, suc, ◌+◌, ◌<◌, Bool, ◌&&◌, List, take, drop, Contains, IsSome, Option, sym, refl, ap, ◌∙◌, subst, ⊎_elim, arith}
 use Rattle.std.specs.List.{slice_get}
 use Rattle.std.specs.Bool.{if◌then◌else◌, one_answer}
 use Rattle.std.proofs.lemmas.Bool.{false≢true}
 use Rattle.std.proofs.lemmas.Option.{same_Some}
 use Rattle.base.specs.Listing.{action_of}
 use Rattle.base.specs.declared.refusal.Refusal.{Refusal}
-use Rattle.meaning.specs.Formula.{Formula, Holds}
+use Rattle.meaning.specs.Formula.{Formula}
 use Rattle.meaning.specs.Laws.{RightMarks}
 use Rattle.meaning.specs.Lts.{Lts, count_below}
 use Rattle.meaning.specs.DecidingPaths.{HandedOutOf}
 use Rattle.meaning.specs.Verdicts.{Verdict, counted, total, count_of, share}
 use Rattle.formula.specs.Entering.{IsFormula, Unreadable, empty, too_long, no_formula, AllListed, Unlisted}
 use Rattle.formula.specs.Formulas.{by_names, size}
-use Rattle.formula.specs.Grammar.{Parses}
 use Rattle.formula.specs.Tokens.{Tok, name}
 use Rattle.formula.specs.Trees.{Tree}
 use Rattle.formula.specs.Vocabulary.{by_labels}
 use Rattle.formula.proofs.Readings as readings
 use Rattle.aut.specs.declared.header.Header.{Header}
 use Rattle.aut.specs.Form.{Transition, Form}
-use Rattle.aut.specs.Front.{FrontEnds}
 use Rattle.aut.specs.Reading.{met, InRange, HasRoom}
 use Rattle.aut.specs.Systems.{leaving, step_of}
 use Rattle.aut.proofs.Readings as texts

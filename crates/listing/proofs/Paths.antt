@@ -1,8 +1,8 @@
 -- Whether there is a path to hand out.
-use Rattle.std.proofs.Common.{◌≡◌, ℕ, ◌<◌, Bool, true, false, Some, None, Option, is_some, inl, inr, sym, refl, subst, ⊎_elim}
+use Rattle.std.proofs.Common.{◌≡◌, ℕ, ◌<◌, Some, None, Option, is_some, inl, inr, sym, refl, subst, ⊎_elim}
 use Rattle.std.proofs.lemmas.Option.{none-some}
 use Rattle.meaning.specs.Deciding.{Lasting, Lasts, HasDeciding, Shows}
-use Rattle.meaning.specs.DecidingPaths.{DecidingPath, ended, looping, Chosen, LightestOne, HandedOut, HasDecidingOf, HasToShow, HandedOutOf}
+use Rattle.meaning.specs.DecidingPaths.{DecidingPath, ended, looping, Chosen, HandedOut, HasDecidingOf, HasToShow, HandedOutOf}
 use Rattle.meaning.specs.Formula.{Quantifier, E, A, Temporal, U, W, Formula, TRUE, FALSE, NOT, AND, OR, path, Holds, Part}
 use Rattle.meaning.specs.Lts.{Lts}
 use Rattle.meaning.specs.Paths.{Kind}

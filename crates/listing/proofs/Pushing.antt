@@ -1,7 +1,6 @@
 -- Texts of steps, one after another.
-use Rattle.std.proofs.Common.{◌≡◌, ℕ, ◌+◌, ◌<◌, ◌≤◌, suc, List, [], ◌∷◌, ◌++◌, length, drop, get_or, codes, Some, None, Option, sym, refl, ap, ◌∙◌, arith, append_assoc}
+use Rattle.std.proofs.Common.{◌≡◌, ℕ, ◌+◌, ◌<◌, suc, List, ◌∷◌, ◌++◌, length, drop, get_or, codes, sym, ap, ◌∙◌, arith, append_assoc}
 use Rattle.std.proofs.Math.Seq.{drop-cons}
-use Rattle.std.specs.Option.{unwrap_or, option_map}
 use Rattle.search.specs.declared.step.Step.{Step}
 use Rattle.search.specs.Quests.{steps_of}
 use Rattle.aut.specs.Writing.{name_at}

@@ -4,7 +4,6 @@ use Rattle.std.specs.Io.KnownBytes.{Appends}
 use Rattle.std.specs.Option.{option_map}
 use Rattle.std.proofs.lemmas.Bool.{cases_lt}
 use Rattle.std.proofs.lemmas.List.{take_all, length-take}
-use Rattle.base.specs.declared.refusal.Refusal.{Refusal}
 use Rattle.listing.specs.Listing.{Item, Said, read, Listing}
 use Rattle.listing.specs.Listing as listing
 use Rattle.listing.specs.Models.{no_model}

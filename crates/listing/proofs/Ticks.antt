@@ -1,5 +1,5 @@
 -- Weights that are told by numbers: a path that is lightest by the ones is so by the others.
-use Rattle.std.proofs.Common.{◌≡◌, ℕ, Bool, true, List, [], ◌∷◌, Some, None, Option, inl, inr, sym, refl, ap, ◌∙◌, ⊎_elim}
+use Rattle.std.proofs.Common.{◌≡◌, ℕ, true, List, [], ◌∷◌, Some, None, Option, inl, inr, sym, refl, ap, ◌∙◌, ⊎_elim}
 use Rattle.meaning.specs.Deciding.{Step}
 use Rattle.meaning.specs.DecidingPaths.{DecidingPath, ended, looping, LightestOne, HandedOut, HandedOutOf}
 use Rattle.meaning.specs.Formula.{Quantifier, Temporal, Formula, TRUE, FALSE, NOT, AND, OR, path, Holds, Part}

@@ -5,17 +5,15 @@ use Rattle.meaning.specs.DecidingPaths.{DecidingPath, HandedOutOf}
 use Rattle.meaning.specs.Formula.{Formula}
 use Rattle.meaning.specs.Lts.{Lts}
 use Rattle.shelf.specs.Sheets.{Sheets}
-use Rattle.meaning.specs.Verdicts as meant
 use Rattle.model.specs.declared.cell.Cell.{Cell}
 use Rattle.model.specs.Grids.{GridOver}
 use Rattle.aut.specs.declared.header.Header.{Header}
-use Rattle.study.specs.Runs.{Call, Run, judge, path, OnlyFormulaOf, entered_in, NodesIn}
+use Rattle.study.specs.Runs.{Call, Run, OnlyFormulaOf, entered_in, NodesIn}
 use Rattle.study.specs.declared.study.Study.{Study}
 use Rattle.study.specs.declared.verdict.Verdict.{Verdict}
-use Rattle.study.specs.Study.{said}
 use Rattle.listing.specs.Airtimes.{by_airtime, tariffs, one_each}
 use Rattle.listing.specs.Lines.{lines_of}
-use Rattle.listing.specs.Listing.{Item, report, item_text, text_of, VerdictOn, Judged, Answered, AllAnswered}
+use Rattle.listing.specs.Listing.{Item, item_text, text_of, Judged, Answered, AllAnswered}
 use Rattle.listing.specs.Texts.{path_text}
 
 -- The study and the sheets are what calls over the model led to, in which so many formulas of so

@@ -3,7 +3,8 @@ ghost use Rattle.search.specs.Quests.{steps_of};
 ghost use Rattle.aut.specs.Writing.{name_at};
 ghost use Rattle.search.specs.Finding.{path_in, Counted};
 ghost use Rattle.study.specs.Study.{said};
-ghost use Rattle.listing.specs.Texts.{refused_text, word_of, figures_text, verdict_text, steps_text, path_text};
+ghost use Rattle.listing.specs.Texts.{refused_text, word_of, figures_text, verdict_text};
+ghost use Rattle.listing.specs.Texts.{steps_text, path_text};
 
 use base::{Labels, Refusal};
 use itoa::Buffer;

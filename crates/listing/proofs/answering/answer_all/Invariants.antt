@@ -1,4 +1,4 @@
-use Rattle.std.proofs.Common.{◌++◌, List, ℕ, length}
+use Rattle.std.proofs.Common.{ℕ, length}
 use Rattle.listing.specs.Steps.{Stands}
 use Rattle.listing.proofs.Passing.{SoFar}
 use Rattle.listing.proofs.answering.answer_all.Given as goal

@@ -1,6 +1,6 @@
 use Rattle.std.proofs.Common.{refl}
 use Rattle.listing.proofs.Airtimes.{ticks, told}
-use Rattle.listing.proofs.Items.{on_ok, traced, not_refused_at}
+use Rattle.listing.proofs.Items.{on_ok, traced}
 use Rattle.listing.proofs.answering.trace.Goals as goal
 
 pub push_path-requires : goal.push_path-requires
