@@ -7,7 +7,7 @@ mod examples;
 mod formulas;
 mod limits;
 mod models;
-mod paths;
+mod path_lines;
 
 use anyhow::Result;
 use listing::{listing, run};
@@ -53,6 +53,6 @@ fn main(rt: HostRuntime) -> Result<()> {
     examples::show_all(&rt)?;
     show_all(&rt, &models::CASES)?;
     show_all(&rt, &formulas::CASES)?;
-    show_all(&rt, &paths::CASES)?;
+    show_all(&rt, &path_lines::CASES)?;
     limits::show_all(&rt)
 }
