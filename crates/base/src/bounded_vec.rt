@@ -88,9 +88,14 @@ impl<T: Filler + Eq, const N: usize> Eq for BoundedVec<T, N> {
     ghost laws = { lists_equiv T.Eq.laws };
 }
 
+// Shown as the list of its values.
 impl<T: Filler + fmt::Debug, const N: usize> fmt::Debug for BoundedVec<T, N> {
+    ghost use Rattle.std.specs.Fmt.{debug_list};
+
+    ghost debug_output = { debug_list T.debug_output };
+
     fn fmt<W: fmt::Write>(&self, f: &mut fmt::Formatter<W>) -> fmt::Result {
-        f.debug_list().entries(self.as_slice()).finish()
+        fmt::Debug::fmt(&self.as_slice(), f)
     }
 }
 
