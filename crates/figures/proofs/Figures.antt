@@ -29,12 +29,12 @@ at_upload : All (IsRight upload_lts upload_labels) upload_rows
 unfolding read in_braces tree_of
 at_upload =
     all_of (IsRight upload_lts upload_labels) upload_rows (
-      right_by _ _ _ _ _ refl refl refl refl,
+      right_by _ _ _ _ _ refl refl refl refl refl,
       (
-        right_by _ _ _ _ _ refl refl refl refl,
+        right_by _ _ _ _ _ refl refl refl refl refl,
         (
-          right_by _ _ _ _ _ refl refl refl refl,
-          (right_by _ _ _ _ _ refl refl refl refl, tt),
+          right_by _ _ _ _ _ refl refl refl refl refl,
+          (right_by _ _ _ _ _ refl refl refl refl refl, tt),
         ),
       ),
     )
@@ -43,12 +43,12 @@ at_lone : All (IsRight lone_lts lone_labels) lone_rows
 unfolding read in_braces tree_of
 at_lone =
     all_of (IsRight lone_lts lone_labels) lone_rows (
-      right_by _ _ _ _ _ refl refl refl refl,
+      right_by _ _ _ _ _ refl refl refl refl refl,
       (
-        right_by _ _ _ _ _ refl refl refl refl,
+        right_by _ _ _ _ _ refl refl refl refl refl,
         (
-          right_by _ _ _ _ _ refl refl refl refl,
-          (right_by _ _ _ _ _ refl refl refl refl, tt),
+          right_by _ _ _ _ _ refl refl refl refl refl,
+          (right_by _ _ _ _ _ refl refl refl refl refl, tt),
         ),
       ),
     )

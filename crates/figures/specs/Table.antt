@@ -14,13 +14,15 @@ abbrev pub upload_labels : List (List ℕ)
 upload_labels =
     codes "tau" ∷ codes "meas" ∷ codes "send" ∷ codes "add" ∷ codes "ack" ∷ codes "lost" ∷ []
 
--- number, text, whether it holds at the start, at how many states, of how many, thousandths
+-- number, text, at which states it holds, whether at the start, at how many, of how many, and
+-- thousandths
 abbrev pub upload_rows : List Row
 upload_rows =
-    row 0 (codes "NOT EF {add} E[{NOT meas} U {add}]") false 0 4 0
-    ∷ row 1 (codes "AF {ack}") false 0 4 0
-    ∷ row 2 (codes "EX {lost}") false 1 4 250
-    ∷ row 3 (codes "AX {meas}") true 1 4 250
+    row 0 (codes "NOT EF {add} E[{NOT meas} U {add}]")
+    (false ∷ false ∷ false ∷ false ∷ []) false 0 4 0
+    ∷ row 1 (codes "AF {ack}") (false ∷ false ∷ false ∷ false ∷ []) false 0 4 0
+    ∷ row 2 (codes "EX {lost}") (false ∷ false ∷ false ∷ true ∷ []) false 1 4 250
+    ∷ row 3 (codes "AX {meas}") (true ∷ false ∷ false ∷ false ∷ []) true 1 4 250
     ∷ []
 
 -- the same of a model with one state, deadlocked
@@ -29,10 +31,10 @@ lone_labels = codes "tau" ∷ []
 
 abbrev pub lone_rows : List Row
 lone_rows =
-    row 0 (codes "AX {FALSE}") true 1 1 1000
-    ∷ row 1 (codes "EG {FALSE}") true 1 1 1000
-    ∷ row 2 (codes "EX {TRUE}") false 0 1 0
-    ∷ row 3 (codes "AF {TRUE}") false 0 1 0
+    row 0 (codes "AX {FALSE}") (true ∷ []) true 1 1 1000
+    ∷ row 1 (codes "EG {FALSE}") (true ∷ []) true 1 1 1000
+    ∷ row 2 (codes "EX {TRUE}") (false ∷ []) false 0 1 0
+    ∷ row 3 (codes "AF {TRUE}") (false ∷ []) false 0 1 0
     ∷ []
 
 -- states of each side, slots of each side, states and slots of both joined, whether these fit
