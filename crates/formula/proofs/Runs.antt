@@ -1,11 +1,13 @@
 -- What is cut from the front of a text.
-use Rattle.std.proofs.Common.{◌≡◌, ℕ, suc, ◌+◌, ◌<◌, Bool, true, false, cond, eqb, List, [], ◌∷◌, length, take, drop, Some, None, Option, refl, ap, ◌∙◌, arith, length-drop}
+use Rattle.std.proofs.Common.{◌≡◌, ℕ, suc, ◌+◌, ◌<◌, Bool, true, false, cond, eqb, List, [], ◌∷◌, length, take, drop, Some, None, Option, Ok, Err, Result, refl, ap, ◌∙◌, subst, arith, length-drop}
 use Rattle.std.specs.List.{prefix_len}
 use Rattle.std.specs.Option.{option_map}
 use Rattle.base.specs.Names.{name_byte, is_name}
+use Rattle.base.specs.declared.refusal.Refusal.{Refusal}
 use Rattle.formula.specs.declared.symbol.Symbol.{Symbol}
 use Rattle.formula.specs.declared.symbol.Symbol.TheVariants.{Sign as signed}
-use Rattle.formula.specs.Tokens.{capital, past, sign, word, Front, ended, broken, found, name, found_symbol, word_at, name_at, token_at, front}
+use Rattle.formula.specs.declared.token.Token.{Token}
+use Rattle.formula.specs.Tokens.{Steps, capital, past, sign, word, Front, ended, broken, found, name, found_symbol, word_at, name_at, token_at, front}
 
 -- what follows spaces
 pub past_spaces : (bs : List ℕ) → front bs ≡ token_at (past (λ b. eqb b 32) bs)
@@ -51,3 +53,9 @@ token_within [] = tt
 token_within (b ∷ bs) =
     symbol_within (length (b ∷ bs)) (option_map signed (sign b)) bs _ (omega arith)
     (elim (capital b) as (λ x. Within (length (b ∷ bs)) (cond x (word_at (b ∷ bs)) (name_at (b ∷ bs)))) [ true ↦ word_within b bs | false ↦ name_within b bs ])
+
+-- and so is what is left after a step that finds a token or what is none
+pub steps_within : (bs : List ℕ) (r : Result Token Refusal) (rest : List ℕ) → 0 < length bs
+    → Steps (token_at bs) (Some r) rest → length rest < length bs
+steps_within bs (Ok t) rest h e = subst (Within (length bs)) e (token_within bs)
+steps_within bs (Err k) rest h e = omega (arith, ap length e.2)

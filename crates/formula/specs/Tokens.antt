@@ -4,7 +4,6 @@
 use Rattle.std.specs.Prelude.{◌≡◌, ℕ, zero, suc, Bool, ◌&&◌, List, [], ◌∷◌, length, drop, Some, None, Ok, Err, codes, Option, Result, ◌==◌, nat_le, if◌then◌else◌}
 use Rattle.std.specs.List.{prefix_len, take_while}
 use Rattle.std.specs.Option.{option_map}
-use Rattle.std.specs.Borrow.{Bor}
 use Rattle.std.specs.Str.{bytes_eq}
 use Rattle.base.specs.Names.{name_byte, is_name}
 use Rattle.base.specs.declared.refusal.Refusal.{Refusal}
@@ -116,14 +115,9 @@ tokens_in (suc n) text = onward (front text) (tokens_in n)
 abbrev pub tokens_of : List ℕ → Option (List Tok)
 tokens_of text = tokens_in (suc (length text)) text
 
--- a token was cut from the front of a text, or none is there
-abbrev pub Cuts : Front → Result (Token × Bor (List ℕ)) Refusal → Type 0
-Cuts f (Ok p) = f ≡ found (tok p.0) p.1.now
-Cuts f (Err e) = (f ≡ broken) × (e ≡ Grammar)
-
 -- what comes next at the front of a text, with what is left of the text: nothing after what is no
 -- token
 abbrev pub Steps : Front → Option (Result Token Refusal) → List ℕ → Type 0
-Steps f None rest = f ≡ ended
+Steps f None rest = (f ≡ ended) × (rest ≡ [])
 Steps f (Some (Ok t)) rest = f ≡ found (tok t) rest
 Steps f (Some (Err e)) rest = (f ≡ broken) × (e ≡ Grammar) × (rest ≡ [])

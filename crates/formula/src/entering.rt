@@ -19,6 +19,10 @@ use base::{Labels, Refusal};
 /// The most bytes that a text may have.
 pub const MOST_BYTES: usize = 1024;
 
+// A text of at most so many bytes is short: the room for as many tokens as a longer one may have
+// takes more time than reading it.
+const SHORT: usize = 64;
+
 // Whether a token is no name that is not listed.
 fn is_listed(token: Token, names: Names) -> bool
     ensures { result ≡ is_listed (vocabulary names.entry) (tok token) }
@@ -65,17 +69,24 @@ impl<'a> Cursor<'a> {
     }
 }
 
-// The table with the formula that a text of a right length is. A call of its own, so that a text
-// that is refused for its length does not pay for the room of the tokens.
+// The table with the formula that a text of a right length is, in a room for so many tokens. A call
+// of its own, so that no text pays for more room than it gets.
 #[inline(never)]
-fn check_lexed(text: &[u8], names: Names, nodes: &Nodes) -> Result<Nodes, Refusal>
+fn check_lexed<const ROOM: usize>(
+    text: &[u8],
+    names: Names,
+    nodes: &Nodes,
+) -> Result<Nodes, Refusal>
     requires some { 1 ≤ length text.now }
     requires few { length text.now ≤ 1024 }
+    requires room { length text.now ≤ ROOM }
+    requires bounded { ROOM ≤ 1024 }
     ensures { Checks text.now (vocabulary names.entry) nodes.now result }
 {
-    let tokens = lex(text)?;
+    let mut room = [Token::default(); ROOM];
+    let count = lex(text, &mut room)?;
     let start = Cursor {
-        tokens: tokens.as_slice(),
+        tokens: &room[..count],
         names,
     };
     start.check_tokens(nodes)
@@ -88,7 +99,10 @@ fn check(text: &[u8], names: Names, nodes: &Nodes) -> Result<Nodes, Refusal>
     if text.is_empty() || text.len() > MOST_BYTES {
         return Err(Refusal::Grammar);
     }
-    check_lexed(text, names, nodes)
+    if text.len() <= SHORT {
+        return check_lexed::<SHORT>(text, names, nodes);
+    }
+    check_lexed::<MOST_BYTES>(text, names, nodes)
 }
 
 /// Enters a text: writes its nodes past those before, and answers the number of its formula. It is

@@ -1,14 +1,12 @@
-ghost use Rattle.std.specs.Prelude.{◌≡◌, ℕ, Bool, ◌<◌, ◌≤◌, map, length, IfNone, IfSome, IfOk, IfErr, OnErr};
+ghost use Rattle.std.specs.Prelude.{◌≡◌, ℕ, Bool, Some, ◌<◌, ◌≤◌, map, take, length, IfOk, IfErr, OnErr};
 ghost use Rattle.std.specs.Iterator.{at_most};
 ghost use Rattle.std.specs.List.{take_while};
 ghost use Rattle.base.specs.declared.refusal.Refusal.TheVariants.{Grammar};
 ghost use Rattle.formula.specs.Lexers.{rest_of};
-ghost use Rattle.formula.specs.Tokens.{past, sign, word, word_at, name_at, token_at, ended, front, Cuts, Steps, tok, tokens_of};
+ghost use Rattle.formula.specs.Tokens.{past, sign, word, word_at, name_at, token_at, front, Steps, tok, tokens_of};
 
-use crate::entering::MOST_BYTES;
 use crate::symbol::{Connective, Link, Operator, Quantifier, Sign, Symbol};
 use crate::token::Token;
-use arrayvec::ArrayVec;
 use base::{Name, Refusal, is_name_byte};
 
 // The sign that a character is, if it is one.
@@ -61,36 +59,6 @@ fn run<F: Fn(u8) -> bool>(text: &[u8], belongs: F) -> (&[u8], &[u8])
     text.split_at(text.iter().take_while(|byte| belongs(**byte)).count())
 }
 
-// The word that a text begins with, and the text after it.
-fn word_at(text: &[u8]) -> Result<(Token, &[u8]), Refusal>
-    ensures { Cuts (word_at text.now) result }
-{
-    let (letters, rest) = run(text, |byte| byte.is_ascii_uppercase());
-    let symbol = word_of(letters).ok_or(Refusal::Grammar)?;
-    Ok((Token::Symbol(symbol), rest))
-}
-
-// The name that a text begins with, and the text after it.
-fn name_at(text: &[u8]) -> Result<(Token, &[u8]), Refusal>
-    ensures { Cuts (name_at text.now) result }
-{
-    let (word, rest) = run(text, is_name_byte);
-    let name = Name::new(word).ok_or(Refusal::Grammar)?;
-    Ok((Token::Name(name), rest))
-}
-
-// The token that a text begins with, and the text after it.
-fn token_at(text: &[u8]) -> Result<(Token, &[u8]), Refusal>
-    requires { 0 < length text.now }
-    ensures { Cuts (token_at text.now) result }
-{
-    match sign_of(char::from(text[0])) {
-        Some(sign) => Ok((Token::Symbol(Symbol::Sign(sign)), &text[1..])),
-        None if text[0].is_ascii_uppercase() => word_at(text),
-        None => name_at(text),
-    }
-}
-
 // A text from its first byte on that is no space; nothing, if there is none.
 fn past_spaces(text: &[u8]) -> &[u8]
     ensures token { front text.now ≡ token_at result.now }
@@ -113,6 +81,60 @@ impl<'a> Lexer<'a> {
     {
         Lexer { rest: text }
     }
+
+    /// The text after the tokens so far: none after the end, and none after bytes that are no
+    /// token.
+    pub fn rest(&self) -> &'a [u8]
+        ensures { result.now ≡ rest_of self.now }
+    {
+        let Lexer { rest } = *self;
+        rest
+    }
+}
+
+// What comes next at the front of a text, each kind handed out as it is found: a token that is
+// packed with what follows it is copied once more.
+impl<'a> Lexer<'a> {
+    // The word that a text begins with.
+    fn word(&mut self, text: &'a [u8]) -> Result<Token, Refusal>
+        ensures { Steps (word_at text.now) (Some result) (rest_of self.new) }
+    {
+        let (letters, rest) = run(text, |byte| byte.is_ascii_uppercase());
+        let Some(symbol) = word_of(letters) else {
+            self.rest = &[];
+            return Err(Refusal::Grammar);
+        };
+        self.rest = rest;
+        Ok(Token::Symbol(symbol))
+    }
+
+    // The name that a text begins with.
+    fn name(&mut self, text: &'a [u8]) -> Result<Token, Refusal>
+        ensures { Steps (name_at text.now) (Some result) (rest_of self.new) }
+    {
+        let (word, after) = run(text, is_name_byte);
+        let Some(name) = Name::new(word) else {
+            self.rest = &[];
+            return Err(Refusal::Grammar);
+        };
+        self.rest = after;
+        Ok(Token::Name(name))
+    }
+
+    // The token that a text begins with.
+    fn token(&mut self, text: &'a [u8]) -> Result<Token, Refusal>
+        requires { 0 < length text.now }
+        ensures { Steps (token_at text.now) (Some result) (rest_of self.new) }
+    {
+        match sign_of(char::from(text[0])) {
+            Some(sign) => {
+                self.rest = &text[1..];
+                Ok(Token::Symbol(Symbol::Sign(sign)))
+            }
+            None if text[0].is_ascii_uppercase() => self.word(text),
+            None => self.name(text),
+        }
+    }
 }
 
 impl<'a> Iterator for Lexer<'a> {
@@ -125,31 +147,27 @@ impl<'a> Iterator for Lexer<'a> {
     fn next(&mut self) -> Option<Result<Token, Refusal>> {
         let text = past_spaces(self.rest);
         if text.is_empty() {
+            self.rest = text;
             return None;
         }
-        match token_at(text) {
-            Ok((token, rest)) => {
-                self.rest = rest;
-                Some(Ok(token))
-            }
-            Err(refusal) => {
-                self.rest = &[];
-                Some(Err(refusal))
-            }
-        }
+        Some(self.token(text))
     }
 }
 
-// The tokens of a text, of which there are no more than bytes.
-pub(crate) fn lex(text: &[u8]) -> Result<ArrayVec<Token, MOST_BYTES>, Refusal>
-    requires { length text.now ≤ MOST_BYTES }
-    ensures tokens { IfOk result (λ tokens. tokens_of text.now ≡ Some (map tok tokens.items)) }
+// The tokens of a text, of which there are no more than bytes, into the front of a room; how many.
+// The room is lent, since a list of its size would be copied when it is handed out.
+pub(crate) fn lex(text: &[u8], room: &mut [Token]) -> Result<usize, Refusal>
+    requires { length text.now ≤ length room.old }
+    ensures tokens { IfOk result (λ count. tokens_of text.now
+        ≡ Some (map tok (take count room.new))) }
+    ensures count { IfOk result (λ count. count ≤ length room.new) }
     ensures none { OnErr result (tokens_of text.now ≡ None) }
     ensures refusal { IfErr result (λ e. e ≡ Grammar) }
 {
-    let mut tokens = ArrayVec::new();
+    let mut count = 0;
     for token in Lexer::new(text) {
-        tokens.push(token?);
+        room[count] = token?;
+        count += 1;
     }
-    Ok(tokens)
+    Ok(count)
 }

@@ -47,13 +47,22 @@ impl<'a> Cursor<'a> {
                 requires { length (unread rest) ≤ length (ahead self.now) }
                 ensures { Builds (moved self.entry.now rest.entry) draft.entry.now draft.exit.now
                     (stage (operand connective)) result }
-            { self.moved_to(rest).formula(connective.operand(), draft) },
+            {
+                let operand = self.moved_to(rest);
+                // what binds closer is called at once: through `formula` it takes one call more
+                match connective.operand() {
+                    Level::Tight => operand.tight(draft),
+                    level => operand.formula(level, draft),
+                }
+            },
             |left: usize, right: usize, draft: &mut Draft| draft.put(connective.node(left, right)),
         )
     }
 
-    // A word, NOT, parentheses or an operator.
+    // A word, NOT, parentheses or an operator. A call of its own, like those marked so below: a
+    // level of parentheses then takes little of the stack.
     #[cycle(formulas)]
+    #[inline(never)]
     fn tight(&self, draft: &mut Draft) -> Option<Found<'a, usize>>
         ensures { Builds self.now draft.old draft.new Tight result }
     {
@@ -78,6 +87,7 @@ impl<'a> Cursor<'a> {
 
     // What follows NOT.
     #[cycle(formulas)]
+    #[inline(never)]
     fn negated(&self, draft: &mut Draft) -> Option<Found<'a, usize>>
         ensures { BuildsBy self.now draft.old draft.new
             (λ r ts. and_then (r Tight ts) (λ t rest. Some (NOT t, rest))) result }
@@ -104,6 +114,7 @@ impl<'a> Cursor<'a> {
 
     // What follows a two-letter operator.
     #[cycle(formulas)]
+    #[inline(never)]
     fn one_part(&self, operator: Operator, draft: &mut Draft) -> Option<Found<'a, usize>>
         ensures { BuildsBy self.now draft.old draft.new
             (λ r ts. and_then (part (r Tight) ts) (λ p rest. Some (short operator p.0 p.1, rest)))
@@ -124,6 +135,7 @@ impl<'a> Cursor<'a> {
 
     // What follows E or A: two parts in brackets, with U or W between them.
     #[cycle(formulas)]
+    #[inline(never)]
     fn two_parts(&self, quantifier: Quantifier, draft: &mut Draft) -> Option<Found<'a, usize>>
         ensures { BuildsBy self.now draft.old draft.new
             (λ r ts. if_there (past_sign BracketOpen ts) (two_parts (r OrLevel) quantifier) None)

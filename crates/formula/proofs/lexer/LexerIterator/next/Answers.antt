@@ -1,9 +1,9 @@
-use Rattle.std.proofs.Common.{rules, length, subst, ◌<◌}
-use Rattle.formula.proofs.Runs.{Within, token_within}
+use Rattle.std.proofs.Common.{rules, length, ◌<◌}
+use Rattle.formula.proofs.Runs.{steps_within}
 use Rattle.formula.proofs.lexer.LexerIterator.next.Goals as goal
 
-pub returns-in-Ok-clause-goes : goal.returns-in-Ok-clause-goes
-returns-in-Ok-clause-goes c =
-    let text = c.past_spaces-text.result.now in
-    let shorter : length c.in-Ok.rest.now < length c.past_spaces-text.result.now = subst (Within (length text)) c.in-Ok.ensures (token_within text) in
+pub returns-clause-goes : goal.returns-clause-goes
+returns-clause-goes c =
+    let shorter : length c.token.new.self.rest.now < length c.past_spaces-text.result.now =
+    steps_within c.past_spaces-text.result.now c.token.result c.token.new.self.rest.now (search rules) c.token.ensures in
     search rules
